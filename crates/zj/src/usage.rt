@@ -1,0 +1,42 @@
+//! What `--help` and `--version` tell.
+
+const VERSION: &str = "zj 0.1.0\n";
+
+const HELP: &str = "zj: a journalling file service, proved
+
+Usage:
+  zj play         runs the script on standard input and prints the answers
+  zj --help       prints this text
+  zj --version    prints the version
+
+A script has one call a line, each with the core that makes it:
+  0 mkdir PATH    makes an empty directory
+  0 list PATH     prints the names in a directory, ascending
+A path is / or names behind slashes, as /mail/new: at most 16 names, each of 1 to
+26 of the letters a to z and A to Z, digits, and . _ - (but not . or .. alone).
+A script has at most 65,536 lines and 16,777,216 bytes.
+
+`play` starts from the root alone, with room for 8 entries, and prints one line
+for each call: LINE CORE TICKET REPLY. Nothing is kept when it ends.
+
+Example:
+  printf '0 mkdir /a\\n0 list /\\n' | zj play
+prints
+  1 0 0 ok
+  2 0 1 names a
+
+Status: 0 done; and with a text on standard error: 1 the words are no command,
+2 the input is no script, 5 no memory, 6 reading failed, 7 writing failed.
+";
+
+/// The text that the words ask for, or None where they are for the top call.
+pub fn told(words: &[String]) -> Option<&'static str> {
+    match words {
+        [word] => match word.as_str() {
+            "--help" | "-h" => Some(HELP),
+            "--version" | "-V" => Some(VERSION),
+            _ => None,
+        },
+        _ => None,
+    }
+}

@@ -1,0 +1,5 @@
+pub mod Block
+pub mod Laws
+pub mod Lists
+pub mod Numbers
+pub mod Sizes

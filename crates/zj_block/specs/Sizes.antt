@@ -1,0 +1,49 @@
+-- The sizes of an image as numbers, and what follows from them.
+use Rattle.std.specs.Prelude.{◌≡◌, ℕ, ◌+◌, ◌-◌, ◌*◌, ◌/◌, ◌%◌, ◌<◌, ◌≤◌}
+use Rattle.zj_block.specs.declared.sizes.TheConstants.{BLOCKS_PER_MAP_BLOCK, MAX_AREA, MAX_BLOCKS, MAX_CORES, MAX_NODES, MAX_RECORD_BLOCKS, MIN_BLOCKS, MIN_CORES, MIN_NODES, NODES_PER_BLOCK, VERSION}
+
+-- the numbers that an image is made with: its version, its blocks, nodes and cores, and a journal's area in bytes
+pub record Numbers : Type 0 where
+  pub version : ℕ
+  pub blocks : ℕ
+  pub nodes : ℕ
+  pub cores : ℕ
+  pub area : ℕ
+
+-- the numbers, one by one
+abbrev pub numbers_of : ℕ → ℕ → ℕ → ℕ → ℕ → Numbers
+numbers_of version blocks nodes cores area = record { version = version; blocks = blocks; nodes = nodes; cores = cores; area = area }
+
+-- the bytes of a longest record: its head, a bound for each core, and its blocks, each of 512 bytes behind 16 of its own
+abbrev pub max_record : Numbers → ℕ
+max_record n = 24 + 8 * n.cores + 528 * MAX_RECORD_BLOCKS
+
+-- the blocks of the map, which has a byte for each block of the image
+abbrev pub map_blocks : Numbers → ℕ
+map_blocks n = (n.blocks + (BLOCKS_PER_MAP_BLOCK - 1)) / BLOCKS_PER_MAP_BLOCK
+
+-- the blocks of the nodes
+abbrev pub node_blocks : Numbers → ℕ
+node_blocks n = n.nodes / NODES_PER_BLOCK
+
+-- the first block behind the map and the nodes
+abbrev pub first_data : Numbers → ℕ
+first_data n = map_blocks n + node_blocks n
+
+-- how many blocks there are for data
+abbrev pub room : Numbers → ℕ
+room n = n.blocks - first_data n
+
+-- each number is within its limits, a block is left for data, and an area has room for two longest records
+pub record IsInLimits (n : Numbers) : Type 0 where
+  pub one_version : n.version ≡ VERSION
+  pub least_blocks : MIN_BLOCKS ≤ n.blocks
+  pub most_blocks : n.blocks ≤ MAX_BLOCKS
+  pub least_nodes : MIN_NODES ≤ n.nodes
+  pub most_nodes : n.nodes ≤ MAX_NODES
+  pub whole_nodes : n.nodes % NODES_PER_BLOCK ≡ 0
+  pub least_cores : MIN_CORES ≤ n.cores
+  pub most_cores : n.cores ≤ MAX_CORES
+  pub some_data : first_data n < n.blocks
+  pub least_area : 2 * max_record n ≤ n.area
+  pub most_area : n.area ≤ MAX_AREA

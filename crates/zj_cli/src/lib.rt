@@ -1,0 +1,13 @@
+//! The top call: all that the program does, from the words of the command line and the bytes of the input to
+//! the bytes of the output and the status.
+#![tactic(auto)]
+
+mod answer;
+mod play;
+mod script;
+mod status;
+mod stream;
+mod tool;
+
+pub use status::{Fault, Status};
+pub use tool::zj_tool;

@@ -1,0 +1,85 @@
+//! How a call of the tool ended.
+
+ghost use Rattle.std.specs.Prelude.{◌≡◌, option_copied};
+
+use std::alloc::{AllocError, AllocFailed};
+use thiserror::Error;
+
+/// Why a call of the tool ended before all was done.
+#[derive(Clone, Copy, Debug, PartialEq, Eq, Error)]
+pub enum Fault {
+    /// The words name no command.
+    #[error("words")]
+    Words,
+    /// The input is no script. Line and column count from 1; until scripts are read with their places all
+    /// three are 0.
+    #[error("script line {line} column {column} kind {kind}")]
+    Script { kind: u32, line: u32, column: u32 },
+    /// There was no memory.
+    #[error("memory")]
+    Memory,
+    /// The input failed.
+    #[error("input")]
+    Input,
+    /// The output failed.
+    #[error("output")]
+    Output,
+}
+
+impl Fault {
+    /// The fault of an input that is no script.
+    pub(crate) const NO_SCRIPT: Fault = Fault::Script {
+        kind: 0,
+        line: 0,
+        column: 0,
+    };
+}
+
+impl From<AllocError> for Fault {
+    ghost use Rattle.std.specs.Prelude.{◌≡◌};
+    ghost use Rattle.zj_cli.specs.declared.status.Fault.TheVariants.{Memory};
+
+    ghost from_gives = { λ _ fault. fault ≡ Memory };
+
+    fn from(_error: AllocError) -> Fault {
+        Fault::Memory
+    }
+}
+
+/// The status of a call of the tool: its code, and the fault where there was one.
+#[derive(Clone, Copy, Debug, PartialEq, Eq)]
+pub struct Status {
+    fault: Option<Fault>,
+}
+
+impl Status {
+    ghost use Rattle.std.specs.Prelude.{◌≡◌, option_copied};
+    ghost use Rattle.zj_cli.specs.Tool.{fault_of, code_of};
+
+    pub(crate) fn new(fault: Option<Fault>) -> Self
+        ensures { fault_of result ≡ fault }
+    {
+        Status { fault }
+    }
+
+    /// The exit status: 0 where all was done, and else the code of the fault.
+    pub fn code(&self) -> u8
+        ensures { result ≡ code_of self.now }
+    {
+        match self.fault {
+            None => 0,
+            Some(Fault::Words) => 1,
+            Some(Fault::Script { .. }) => 2,
+            Some(Fault::Memory) => 5,
+            Some(Fault::Input) => 6,
+            Some(Fault::Output) => 7,
+        }
+    }
+
+    /// The fault, where there was one.
+    pub fn fault(&self) -> Option<&Fault>
+        ensures { option_copied result ≡ fault_of self.now }
+    {
+        self.fault.as_ref()
+    }
+}

@@ -1,0 +1,79 @@
+-- What a disk is: the bytes that a read gives, what a crash may leave at each moment, and the count of faults.
+use Rattle.std.specs.Prelude.{◌≡◌, ℕ, ◌+◌, ◌-◌, ◌^◌, ◌<◌, ◌≤◌, min, Bool, true, List, ◌++◌, length, take, drop, All, Option, Some, is_some, IsSome, IfSome, option_map}
+
+-- What a disk tells of itself. A moment is a number of calls made. A disk may leave its bytes untold, and then
+-- `may_leave` and `faults_at` say nothing.
+pub record DiskView : Type 0 where
+  -- how many bytes it has
+  pub size : ℕ
+  -- how many reads, writes and syncs were asked: the moment that it is
+  pub calls : ℕ
+  -- how many of them failed
+  pub faults : ℕ
+  -- what a read gives
+  pub bytes : Option (List ℕ)
+  -- whether a crash at a moment may leave these bytes on the device
+  pub may_leave : ℕ → List ℕ → Bool
+  -- how many calls had failed by a moment
+  pub faults_at : ℕ → ℕ
+
+-- each number is a byte
+abbrev pub AreBytes : List ℕ → Type 0
+AreBytes bytes = All (λ byte. byte < 256) bytes
+
+-- the bytes with those from a place on replaced by a piece
+abbrev pub replaced : List ℕ → ℕ → List ℕ → List ℕ
+replaced bytes at piece = take at bytes ++ piece ++ drop (at + length piece) bytes
+
+-- the same length, and the same bytes before a range and behind it
+pub record SameOutside (at count : ℕ) (old new : List ℕ) : Type 0 where
+  pub size : length new ≡ length old
+  pub before : take at new ≡ take at old
+  pub behind : drop (at + count) new ≡ drop (at + count) old
+
+-- What holds of each disk that tells its bytes: a crash now may leave what a read gives, and what a crash may
+-- leave fills the device.
+pub record IsDisk (disk : DiskView) : Type 0 where
+  pub current : IfSome disk.bytes (λ bytes. disk.may_leave disk.calls bytes ≡ true)
+  pub filled : (moment : ℕ) (image : List ℕ) → moment ≤ disk.calls → disk.may_leave moment image ≡ true → (length image ≡ disk.size) × AreBytes image
+  pub faults_now : IsSome disk.bytes → disk.faults_at disk.calls ≡ disk.faults
+
+-- One call more was made. Earlier moments stay as they were, and what was told is told.
+pub record GoesOn (old new : DiskView) : Type 0 where
+  pub size : new.size ≡ old.size
+  pub calls : new.calls ≡ min (old.calls + 1) (2 ^ 64 - 1)
+  pub no_fewer : old.faults ≤ new.faults
+  pub told : is_some new.bytes ≡ is_some old.bytes
+  pub images : (moment : ℕ) (image : List ℕ) → moment < new.calls → new.may_leave moment image ≡ old.may_leave moment image
+  pub past : (moment : ℕ) → moment < new.calls → new.faults_at moment ≡ old.faults_at moment
+  pub is_disk : IsDisk new
+
+-- A call that leaves the device as it was, and what is pending on it.
+pub record LeavesAll (old new : DiskView) : Type 0 where
+  pub goes_on : GoesOn old new
+  pub bytes : new.bytes ≡ old.bytes
+  pub images : (image : List ℕ) → new.may_leave new.calls image ≡ old.may_leave old.calls image
+
+-- Each image now is an image from before, with any bytes in the range.
+abbrev pub TearsOnly : ℕ → ℕ → DiskView → DiskView → Type 0
+TearsOnly at count old new = (image : List ℕ) → new.may_leave new.calls image ≡ true →
+    (before : List ℕ) × (old.may_leave old.calls before ≡ true) × SameOutside at count before image
+
+-- A write that was answered Ok: a read gives the piece, and until the next sync a crash may leave any bytes there.
+pub record Writes (at : ℕ) (piece : List ℕ) (old new : DiskView) : Type 0 where
+  pub goes_on : GoesOn old new
+  pub bytes : new.bytes ≡ option_map (λ bytes. replaced bytes at piece) old.bytes
+  pub torn : TearsOnly at (length piece) old new
+  pub any_bytes : (before image : List ℕ) → old.may_leave old.calls before ≡ true → SameOutside at (length piece) before image → AreBytes image → new.may_leave new.calls image ≡ true
+
+-- A write that failed: the range may hold anything, for a read and after a crash.
+pub record FailsToWrite (at count : ℕ) (old new : DiskView) : Type 0 where
+  pub goes_on : GoesOn old new
+  pub bytes : IfSome old.bytes (λ before. IfSome new.bytes (SameOutside at count before))
+  pub torn : TearsOnly at count old new
+
+-- A sync that was answered Ok: a crash leaves what a read gives, and nothing else.
+pub record Syncs (old new : DiskView) : Type 0 where
+  pub goes_on : GoesOn old new
+  pub bytes : new.bytes ≡ old.bytes
+  pub only : (image : List ℕ) → new.may_leave new.calls image ≡ true → new.bytes ≡ Some image
