@@ -2,4 +2,9 @@ pub mod Fault
 pub mod Stream
 pub mod Memory
 pub mod Disk
+pub mod Untold
 pub mod Shelf
+pub mod Device
+pub mod Medium
+pub mod MemDisk
+pub mod MemShelf

@@ -1,5 +1,5 @@
 -- What a shelf is: which device stands under each name.
-use Rattle.std.specs.Prelude.{◌≡◌, ◌≢◌, ℕ, true, List, length, replicate, Option, Some, None, IfSome, All, ◌⊎◌}
+use Rattle.std.specs.Prelude.{◌≡◌, ◌≢◌, ℕ, true, List, replicate, Option, Some, None, ◌⊎◌}
 use Rattle.zj_dev.specs.Disk.{DiskView, IsDisk}
 
 -- What a shelf tells of a name: nothing, that no device has it, that its device is out, or its device.

@@ -50,3 +50,23 @@ pub trait Shelf {
         ensures cause { OnErr result (Rose (faults self.old) (faults self.new)) }
         ensures no_fewer { faults self.old ≤ faults self.new };
 }
+
+impl<H: Shelf> Shelf for &mut H {
+    type D = H::D;
+
+    ghost names = { λ shelf. H.names shelf.now };
+
+    ghost faults = { λ shelf. H.faults shelf.now };
+
+    fn open(&mut self, name: &str) -> Result<Option<H::D>, ShelfFailed> {
+        (**self).open(name)
+    }
+
+    fn create(&mut self, name: &str, len: u64) -> Result<Option<H::D>, ShelfFailed> {
+        (**self).create(name, len)
+    }
+
+    fn close(&mut self, name: &str, d: H::D) -> Result<(), ShelfFailed> {
+        (**self).close(name, d)
+    }
+}

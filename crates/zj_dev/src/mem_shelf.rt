@@ -1,0 +1,236 @@
+//! A shelf in memory.
+
+ghost use Rattle.std.specs.Prelude.{◌≡◌, ◌^◌, [], IfOk};
+ghost use Rattle.zj_dev.specs.Shelf.{IsBlank};
+ghost use Rattle.zj_dev.specs.MemDisk.{disk_view, failing_calls, stop_call};
+
+use crate::disk::Disk;
+use crate::mem_disk::MemDisk;
+use crate::shelf::{Shelf, ShelfFailed};
+use std::alloc::{AllocError, Global};
+use std::mem;
+
+/// A name, whether its device is out, and the device that stands there.
+#[derive(Debug, Drop)]
+struct Place {
+    name: String,
+    out: bool,
+    disk: Option<MemDisk>,
+}
+
+/// A shelf in memory, whose devices are disks in memory. It tells what stands under each name, and fails
+/// only where `create` finds no memory.
+#[derive(Debug, Drop)]
+pub struct MemShelf {
+    alloc: Global,
+    places: Vec<Place>,
+    faults: u64,
+}
+
+impl MemShelf {
+    ghost use Rattle.std.specs.Prelude.{◌≡◌, ℕ, List, Some, None, true, false, ◌^◌, [], IsTrue, is_some, IsOk, IfOk, OnOk, OnErr, OnSome, IfNone};
+    ghost use Rattle.std.specs.List.{position_from};
+    ghost use Rattle.zj_dev.specs.Shelf.{Absent, IsBlank};
+    ghost use Rattle.zj_dev.specs.MemDisk.{disk_view, failing_calls, stop_call};
+    ghost use Rattle.zj_dev.specs.MemShelf.{Held, is_named, is_taken, held_under, shelf_names, shelf_faults, OthersHeld};
+
+    /// A shelf with no device.
+    pub fn new(alloc: Global) -> Result<MemShelf, AllocError>
+        ensures ok { IsOk result }
+        ensures empty { IfOk result (λ shelf. (name : List ℕ) → shelf_names shelf name ≡ Absent) }
+    {
+        Ok(MemShelf {
+            alloc,
+            places: Vec::new(alloc),
+            faults: 0,
+        })
+    }
+
+    /// Puts a device under the name, and answers the one that stood there. A device that was out is then
+    /// forgotten: closing it changes nothing. Want of memory leaves the shelf as it was, without the device.
+    pub fn put(&mut self, name: &str, d: MemDisk) -> Result<Option<MemDisk>, AllocError>
+        ensures before { IfOk result (λ before. before ≡ (held_under self.old name.now).disk) }
+        ensures stands { OnOk result ((held_under self.new name.now).disk ≡ Some d) }
+        ensures err { OnErr result (held_under self.new name.now ≡ held_under self.old name.now) }
+        ensures others { OthersHeld name.now self.old self.new }
+        ensures faults { shelf_faults self.new ≡ shelf_faults self.old }
+    {
+        if self.is_taken(name) {
+            return Ok(self.replace(name, false, Some(d)));
+        }
+        self.insert(name, false, Some(d))?;
+        Ok(None)
+    }
+
+    /// Takes the device that stands under the name, which then has none. None where no device stands
+    /// there, which leaves the shelf as it was.
+    pub fn take(&mut self, name: &str) -> Option<MemDisk>
+        ensures taken { result ≡ (held_under self.old name.now).disk }
+        ensures absent { OnSome result (shelf_names self.new name.now ≡ Absent) }
+        ensures none { IfNone result (held_under self.new name.now ≡ held_under self.old name.now) }
+        ensures others { OthersHeld name.now self.old self.new }
+        ensures faults { shelf_faults self.new ≡ shelf_faults self.old }
+    {
+        if self.stands(name) {
+            self.replace(name, false, None)
+        } else {
+            None
+        }
+    }
+
+    /// The first place of that name.
+    fn find(&self, name: &str) -> Option<usize>
+        ensures { result ≡ position_from (is_named name.now) 0 self.now.places.items }
+    {
+        self.places
+            .iter()
+            .position(|place| place.name.as_str() == name)
+    }
+
+    /// Whether a device stands under the name.
+    fn stands(&self, name: &str) -> bool
+        ensures { result ≡ is_some (held_under self.now name.now).disk }
+    {
+        match self.find(name) {
+            Some(i) => self.places[i].disk.is_some(),
+            None => false,
+        }
+    }
+
+    /// Whether the device of the name is out. One may stand in its place.
+    fn is_out(&self, name: &str) -> bool
+        ensures { result ≡ (held_under self.now name.now).out }
+    {
+        match self.find(name) {
+            Some(i) => self.places[i].out,
+            None => false,
+        }
+    }
+
+    /// Whether a device has the name, also one that is out.
+    fn is_taken(&self, name: &str) -> bool
+        ensures { result ≡ is_taken (held_under self.now name.now) }
+    {
+        self.is_out(name) || self.stands(name)
+    }
+
+    /// Puts this under a name that is taken, and answers the device that stood there.
+    fn replace(&mut self, name: &str, out: bool, disk: Option<MemDisk>) -> Option<MemDisk>
+        requires { IsTrue (is_taken (held_under self.old name.now)) }
+        ensures before { result ≡ (held_under self.old name.now).disk }
+        ensures held { held_under self.new name.now ≡ record { out = out; disk = disk } }
+        ensures others { OthersHeld name.now self.old self.new }
+        ensures faults { shelf_faults self.new ≡ shelf_faults self.old }
+    {
+        let i = self.find(name)?;
+        let place = &mut self.places[i];
+        place.out = out;
+        mem::replace(&mut place.disk, disk)
+    }
+
+    /// Puts this under a name. Want of memory leaves the shelf as it was.
+    fn insert(&mut self, name: &str, out: bool, disk: Option<MemDisk>) -> Result<(), AllocError>
+        ensures held { OnOk result (held_under self.new name.now ≡ record { out = out; disk = disk }) }
+        ensures err { OnErr result (held_under self.new name.now ≡ held_under self.old name.now) }
+        ensures others { OthersHeld name.now self.old self.new }
+        ensures faults { shelf_faults self.new ≡ shelf_faults self.old }
+    {
+        if let Some(i) = self.find(name) {
+            let place = &mut self.places[i];
+            place.out = out;
+            place.disk = disk;
+            return Ok(());
+        }
+        let name = String::from_str(self.alloc, name)?;
+        self.places.push(Place { name, out, disk })?;
+        Ok(())
+    }
+
+    /// Makes a disk of zero bytes under a name that is free, which is then out.
+    fn make(&mut self, name: &str, len: u64) -> Result<MemDisk, AllocError>
+        ensures blank { IfOk result (λ disk. IsBlank len (disk_view disk)) }
+        ensures failing { IfOk result (λ disk. failing_calls disk ≡ []) }
+        ensures stop { IfOk result (λ disk. stop_call disk ≡ 2 ^ 63) }
+        ensures out { OnOk result (held_under self.new name.now ≡ record { out = true; disk = None }) }
+        ensures err { OnErr result (held_under self.new name.now ≡ held_under self.old name.now) }
+        ensures others { OthersHeld name.now self.old self.new }
+        ensures faults { shelf_faults self.new ≡ shelf_faults self.old }
+    {
+        let disk = blank(self.alloc, len)?;
+        self.insert(name, true, None)?;
+        Ok(disk)
+    }
+}
+
+/// A disk of zero bytes.
+fn blank(alloc: Global, len: u64) -> Result<MemDisk, AllocError>
+    ensures blank { IfOk result (λ disk. IsBlank len (disk_view disk)) }
+    ensures failing { IfOk result (λ disk. failing_calls disk ≡ []) }
+    ensures stop { IfOk result (λ disk. stop_call disk ≡ 2 ^ 63) }
+{
+    let zeros = vec![in alloc; 0u8; len as usize]?;
+    MemDisk::new(alloc, &zeros, &[], None)
+}
+
+impl Shelf for MemShelf {
+    ghost use Rattle.std.specs.Prelude.{◌≡◌, ◌≤◌, ◌^◌, [], Ok, option_map, IsOk, IfOk, IfSome, OnErr};
+    ghost use Rattle.zj_dev.specs.Fault.{Rose};
+    ghost use Rattle.zj_dev.specs.Shelf.{OthersStay, Opens, Creates, FailsToCreate, Closes};
+    ghost use Rattle.zj_dev.specs.MemDisk.{disk_view, failing_calls, stop_call};
+    ghost use Rattle.zj_dev.specs.MemShelf.{Held, is_taken, held_under, shelf_names, shelf_faults};
+
+    type D = MemDisk;
+
+    ghost names = { shelf_names };
+
+    ghost faults = { shelf_faults };
+
+    fn open(&mut self, name: &str) -> Result<Option<MemDisk>, ShelfFailed>
+        ensures ok { IfOk result (λ disk. Opens (shelf_names self.old name.now) (shelf_names self.new name.now) (option_map disk_view disk)) }
+        ensures err { OnErr result (shelf_names self.new name.now ≡ shelf_names self.old name.now) }
+        ensures others { OthersStay name.now (shelf_names self.old) (shelf_names self.new) }
+        ensures cause { OnErr result (Rose (shelf_faults self.old) (shelf_faults self.new)) }
+        ensures no_fewer { shelf_faults self.old ≤ shelf_faults self.new }
+        ensures taken { result ≡ Ok (held_under self.old name.now).disk }
+    {
+        if self.stands(name) {
+            Ok(self.replace(name, true, None))
+        } else {
+            Ok(None)
+        }
+    }
+
+    fn create(&mut self, name: &str, len: u64) -> Result<Option<MemDisk>, ShelfFailed>
+        ensures ok { IfOk result (λ disk. Creates len (shelf_names self.old name.now) (shelf_names self.new name.now) (option_map disk_view disk)) }
+        ensures err { OnErr result (FailsToCreate (shelf_names self.old name.now) (shelf_names self.new name.now)) }
+        ensures others { OthersStay name.now (shelf_names self.old) (shelf_names self.new) }
+        ensures cause { OnErr result (Rose (shelf_faults self.old) (shelf_faults self.new)) }
+        ensures no_fewer { shelf_faults self.old ≤ shelf_faults self.new }
+        ensures failing { IfOk result (λ disk. IfSome disk (λ made. failing_calls made ≡ [])) }
+        ensures stop { IfOk result (λ disk. IfSome disk (λ made. stop_call made ≡ 2 ^ 63)) }
+    {
+        if self.is_taken(name) {
+            return Ok(None);
+        }
+        match self.make(name, len) {
+            Ok(disk) => Ok(Some(disk)),
+            Err(_) => {
+                self.faults = self.faults.saturating_add(1);
+                Err(ShelfFailed)
+            }
+        }
+    }
+
+    fn close(&mut self, name: &str, d: MemDisk) -> Result<(), ShelfFailed>
+        ensures closed { Closes (disk_view d) (shelf_names self.old name.now) (shelf_names self.new name.now) }
+        ensures others { OthersStay name.now (shelf_names self.old) (shelf_names self.new) }
+        ensures cause { OnErr result (Rose (shelf_faults self.old) (shelf_faults self.new)) }
+        ensures no_fewer { shelf_faults self.old ≤ shelf_faults self.new }
+        ensures ok { IsOk result }
+    {
+        if self.is_out(name) && !self.stands(name) {
+            let _ = self.replace(name, true, Some(d));
+        }
+        Ok(())
+    }
+}
