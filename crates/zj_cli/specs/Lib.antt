@@ -2,3 +2,4 @@ pub mod Script
 pub mod Answers
 pub mod Play
 pub mod Tool
+pub mod Laws

@@ -3,6 +3,7 @@
 #![tactic(auto)]
 
 mod answer;
+pub mod laws;
 mod play;
 mod script;
 mod status;
@@ -11,3 +12,6 @@ mod tool;
 
 pub use status::{Fault, Status};
 pub use tool::zj_tool;
+
+#[cfg(test)]
+mod tests;

@@ -1,15 +1,14 @@
 -- A tree with a new directory.
-use Rattle.std.proofs.Common.{◌≡◌, ◌≢◌, ◌⊎◌, inl, inr, ℕ, zero, suc, ◌+◌, ◌-◌, ◌*◌, ◌/◌, ◌%◌, ◌<◌, ◌≤◌, Bool, true, false, cond, ◌&&◌, ltb, eqb, nat_eq, ltb-true, lt-ltb, eqb-true, eq-or-lt_of_le, T, List, [], ◌∷◌, map, length, get_or, take, Option, Some, None, IsSome, is_some, sum_by, count_by, Decides, refl, sym, ap, ◌∙◌, subst, arith}
+use Rattle.std.proofs.Common.{◌≡◌, ◌≢◌, ◌⊎◌, inl, inr, ℕ, ◌+◌, ◌-◌, ◌%◌, ◌<◌, ◌≤◌, Bool, true, false, cond, eqb, nat_eq, ltb-true, lt-ltb, eqb-true, eq-or-lt_of_le, T, List, [], map, length, get_or, take, Option, Some, None, IsSome, sum_by, count_by, Decides, refl, sym, ap, ◌∙◌, subst, arith}
 use Rattle.std.specs.declared.cmp.Ordering.{Ordering}
 use Rattle.std.specs.declared.cmp.Ordering.TheVariants.{Less, Equal, Greater}
 use Rattle.std.specs.Ordering.{is_eq, eq_by_cmp}
 use Rattle.std.specs.Cmp.Lexicographic.{pointwise}
-use Rattle.std.specs.FinMap.{find, put, is_sorted, entries, entries_sorted, insert, get-insert, entries-insert}
+use Rattle.std.specs.FinMap.{find, put, is_sorted, entries, entries_sorted, get-insert, entries-insert}
 use Rattle.std.proofs.lemmas.Bool.{cases_lt}
 use Rattle.std.proofs.lemmas.Slice.Eq.{slice_eq-Decides, bytes_eq-Decides}
 use Rattle.std.proofs.lemmas.Cmp.{tied_itself}
-use Rattle.std.proofs.lemmas.List.{take-take, length-take, take_all}
-use Rattle.std.proofs.lemmas.List.Sums.{sum_by-cons}
+use Rattle.std.proofs.lemmas.List.{take-take, length-take}
 use Rattle.zj_tree.specs.declared.content.Content.{Content}
 use Rattle.zj_tree.specs.declared.content.Content.TheVariants.{Dir, File}
 use Rattle.zj_tree.specs.Path.{parent}
@@ -24,7 +23,7 @@ abbrev Path' : Type 0
 Path' = List (List ℕ)
 
 -- paths that tie are equal, and equal paths tie
-tie : (p q : Path') → eq_by_cmp path_cmp p q ≡ true → p ≡ q
+pub tie : (p q : Path') → eq_by_cmp path_cmp p q ≡ true → p ≡ q
 tie p q h = paths_exact p q (equal (path_cmp p q) h)
   where
     equal : (r : Ordering) → is_eq r ≡ true → r ≡ Equal
@@ -64,6 +63,7 @@ grown_is_tree tree path t dir = record {
         let within : n < length (parent path) = omega arith in
         let above = t.prefixes (parent path) n (subst IsSome (sym dir) refl) within in
         subst (λ p. content_at tree p ≡ Some Dir) (take-take n (length path - 1) path (omega arith)) above
+
     by : (q : Path') (n : ℕ) → n < length q → (b : Bool) → eq_by_cmp path_cmp q path ≡ b → IsSome (cond b (Some Dir) (content_at tree q)) → content_at tree (take n q) ≡ Some Dir
     by q n lt true e some =
         let same : q ≡ path = tie q path e in
@@ -80,10 +80,10 @@ paths_same : (p q : Path') → Decides (pointwise (pointwise nat_eq) p q) (p ≡
 paths_same p q = slice_eq-Decides bytes_eq-Decides p q _ refl
 
 -- a path lies in the directory that is its parent, and in no other
-in_parent : (path : Path') → 0 < length path → is_in (parent path) path ≡ true
+pub in_parent : (path : Path') → 0 < length path → is_in (parent path) path ≡ true
 in_parent path some = both_pass _ _ (lt-ltb 0 (length path) some) ((paths_same (parent path) (parent path)).1 refl)
 
-in_one : (dir path : Path') → is_in dir path ≡ true → (0 < length path) × (parent path ≡ dir)
+pub in_one : (dir path : Path') → is_in dir path ≡ true → (0 < length path) × (parent path ≡ dir)
 in_one dir path h = (ltb-true 0 (length path) (first_passes _ _ h), (paths_same (parent path) dir).0 (second_passes _ _ h))
 
 in_no_other : (dir path : Path') → dir ≢ parent path → is_in dir path ≡ false
@@ -104,6 +104,7 @@ one_more_entry n = by (eqb (n % 16) 0) refl
   where
     no : eqb 0 0 ≡ false → ⊥
     no h = absurd cc
+
     by : (b : Bool) → eqb (n % 16) 0 ≡ b → blocks_for (n + 1) 16 ≡ blocks_for n 16 + cond b 1 0
     by true h = let e : n % 16 ≡ 0 = eqb-true _ _ h in omega arith
     by false h = let e : n % 16 ≢ 0 = λ z. no (subst (λ r. eqb r 0 ≡ false) z h) in omega arith
@@ -143,6 +144,7 @@ module _ (es : Entries) (sorted : T (is_sorted path_cmp es)) (path : Path') (som
     where
       itself : path_cmp (get_or es i d).0 (get_or es at d).0 ≡ Equal
       itself = ap (λ p. path_cmp p (get_or es at d).0) same ∙ tied
+
       by : (i < at) ⊎ (at ≤ i) → ⊥
       by (inl lt) = let less = sorted_less path_cmp es i at d sorted lt lt_at in cc
       by (inr le) =
@@ -157,8 +159,8 @@ module _ (es : Entries) (sorted : T (is_sorted path_cmp es)) (path : Path') (som
       let new = blocks_among (put path_cmp path Dir es) in
       let entry_is = λ (d : List (List ℕ) × Content). pair_is (get_or es place.0 d) (paths_exact _ _ (place.2 d).0) (place.2 d).1 in
       let bumped = sum_bumped (blocks_among es) new more es place.0 place.1
-          (λ i d lt ne. same_blocks (get_or es i d).0 (get_or es i d).1 (apart i place.0 d lt place.1 ne (place.2 d).0))
-          (λ d. ap new (entry_is d) ∙ more_blocks ∙ ap (λ e. blocks_among es e + more) (sym (entry_is d))) in
+      (λ i d lt ne. same_blocks (get_or es i d).0 (get_or es i d).1 (apart i place.0 d lt place.1 ne (place.2 d).0))
+      (λ d. ap new (entry_is d) ∙ more_blocks ∙ ap (λ e. blocks_among es e + more) (sym (entry_is d))) in
       let all = sum_put path_cmp new path Dir es none in
       omega (arith, all, bumped, no_blocks empty)
     where

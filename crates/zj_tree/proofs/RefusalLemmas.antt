@@ -1,12 +1,12 @@
 -- Which refusal of a new entry counts, and where it goes if none does.
-use Rattle.std.proofs.Common.{◌≡◌, ◌≢◌, ℕ, ◌+◌, ◌-◌, ◌%◌, ◌<◌, ◌≤◌, Bool, true, false, cond, eqb, ltb, T, List, [], ◌∷◌, length, get_or, take, Option, Some, None, is_some, refl, sym, ap, ◌∙◌, subst, arith, insert}
-use Rattle.std.specs.FinMap.{entries, entries_sorted, is_sorted, put, find, entries-insert, len-entries, from_sorted, same_entries_map}
+use Rattle.std.proofs.Common.{◌≡◌, ℕ, ◌+◌, ◌%◌, ◌<◌, ◌≤◌, Bool, true, false, cond, eqb, ltb, T, List, [], ◌∷◌, length, get_or, Option, Some, None, is_some, refl, sym, ap, ◌∙◌, subst, arith, insert}
+use Rattle.std.specs.FinMap.{entries, entries_sorted, is_sorted, find, entries-insert, same_entries_map}
 use Rattle.std.proofs.lemmas.Option.{slice_get-get_or}
 use Rattle.std.proofs.lemmas.List.Edits.{length-insert}
 use Rattle.zj_tree.specs.declared.content.Content.{Content}
 use Rattle.zj_tree.specs.declared.content.Content.TheVariants.{Dir, File}
 use Rattle.zj_tree.specs.declared.call.Refusal.{Refusal}
-use Rattle.zj_tree.specs.declared.call.Refusal.TheVariants.{Exists, NotDir, NotFound, DirFull, NoNodes, NoSpace}
+use Rattle.zj_tree.specs.declared.call.Refusal.TheVariants.{Exists, DirFull, NoNodes, NoSpace}
 use Rattle.zj_tree.specs.declared.tree.Place.{Place}
 use Rattle.zj_tree.specs.Path.{parent}
 use Rattle.zj_tree.specs.Tree.{FileTree, IsTree, path_cmp, content_at, entry_count, node_count, used}
@@ -15,7 +15,6 @@ use Rattle.zj_tree.specs.Search.{StandsAt, GoesTo}
 use Rattle.zj_tree.specs.Grown.{grown, HasPlace}
 use Rattle.zj_tree.specs.StoredTree.{tree_of, IsKept}
 use Rattle.zj_tree.proofs.OrderLemmas.{Entries, paths_total, entries_kept, content_found}
-use Rattle.zj_tree.proofs.RootLemmas.{used_among}
 use Rattle.zj_tree.proofs.GrowLemmas.{grown_is_tree, used_grown}
 
 -- the six tests of a new entry, one by one
@@ -58,15 +57,17 @@ kept_grown es new path blocks nodes room version place kept h is =
     let sorted : T (is_sorted path_cmp new) = subst (λ xs. T (is_sorted path_cmp xs)) grown_entries (entries_sorted (grown (tree_of es) path)) in
     let same : tree_of new ≡ grown (tree_of es) path = same_entries_map (tree_of new) (grown (tree_of es) path) (entries_kept new sorted ∙ sym grown_entries) in
     let longer : length new ≡ length es + 1 = ap length is ∙ length-insert es place.at (path, Dir) (subst (λ xs. place.at ≤ length xs) entries_are h.goes.in_range) in
-    let room_left : blocks + place.blocks ≤ room = omega (arith, h.in_room, h.blocks, kept.blocks_are) in
-    (record {
-      sorted = sorted;
-      tree = subst IsTree (sym same) h.is_tree;
-      blocks_are = ap (λ n. n + place.blocks) kept.blocks_are ∙ sym h.blocks ∙ ap used (sym same);
-      in_room = room_left;
-      in_nodes = omega (arith, h.in_nodes, ap length entries_are);
-      nodes_fit = kept.nodes_fit;
-    }, same)
+    let room_left : blocks + place.blocks ≤ room = omega (arith, h.in_room, h.blocks, kept.blocks_are) in (
+      record {
+        sorted = sorted;
+        tree = subst IsTree (sym same) h.is_tree;
+        blocks_are = ap (λ n. n + place.blocks) kept.blocks_are ∙ sym h.blocks ∙ ap used (sym same);
+        in_room = room_left;
+        in_nodes = omega (arith, h.in_nodes, ap length entries_are);
+        nodes_fit = kept.nodes_fit;
+      },
+      same,
+    )
 
 -- whether a path is taken, by a search among the entries
 pub taken : (tree : FileTree) (es : Entries) (path : List (List ℕ)) (at : ℕ) → es ≡ entries tree → StandsAt es path at → is_some (content_at tree path) ≡ true

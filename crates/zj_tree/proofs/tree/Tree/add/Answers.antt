@@ -1,7 +1,7 @@
-use Rattle.std.proofs.Common.{◌≡◌, ◌≤◌, ℕ, List, length, insert, subst, sym, ap, ◌∙◌, arith}
+use Rattle.std.proofs.Common.{ℕ, List, length, insert, subst, sym, ap, ◌∙◌, arith}
 use Rattle.std.specs.FinMap as map_of
 use Rattle.zj_tree.specs.declared.content.Content.TheVariants.{Dir}
-use Rattle.zj_tree.specs.StoredTree.{LimitedTree, tree_of}
+use Rattle.zj_tree.specs.StoredTree.{LimitedTree}
 use Rattle.zj_tree.specs.Grown.{grown, HasPlace}
 use Rattle.zj_tree.proofs.OrderLemmas.{entries_kept}
 use Rattle.zj_tree.proofs.RefusalLemmas.{kept_grown}

@@ -1,0 +1,245 @@
+//! Scripts and what the tool answers to them, faults of the streams, and the texts of answers and faults.
+
+use super::*;
+use crate::answer::{Answer, write_answer};
+use std::alloc::{AllocError, Global};
+use std::test::Fail;
+use zj_dev::{MemSink, MemSource};
+use zj_tree::{Bytes, Name, Names, Refusal, Reply};
+
+const NO_SCRIPT: Fault = Fault::Script {
+    kind: 0,
+    line: 0,
+    column: 0,
+};
+
+fn words_of(alloc: Global, texts: &[&str]) -> Result<Vec<String>, AllocError> {
+    let mut words = Vec::new(alloc);
+    for text in texts {
+        words.push(String::from_str(alloc, text)?)?;
+    }
+    Ok(words)
+}
+
+// The status of a call of the tool, and what it wrote.
+fn outcome(alloc: Global, words: &[&str], input: &[u8]) -> Result<(Status, Vec<u8>), AllocError> {
+    let words = words_of(alloc, words)?;
+    let mut source = MemSource::new(alloc, input, &[])?;
+    let mut sink = MemSink::new(alloc, &[])?;
+    let status = zj_tool(alloc, &words, &mut source, &mut sink);
+    let written = Vec::from_slice(alloc, sink.bytes())?;
+    Ok((status, written))
+}
+
+#[test]
+fn plays_scripts(rt: HostRuntime) -> Result<(), Fail> {
+    let table: [(&str, &str); 8] = [
+        ("", ""),
+        ("0 mkdir /a\n0 list /\n", "1 0 0 ok\n2 0 1 names a\n"),
+        ("0 mkdir /a\n0 list /", "1 0 0 ok\n2 0 1 names a\n"),
+        ("0 list /\n", "1 0 0 names\n"),
+        ("0 mkdir /\n", "1 0 0 exists\n"),
+        ("0 mkdir /b\n0 mkdir /b\n", "1 0 0 ok\n2 0 1 exists\n"),
+        (
+            "0 mkdir /a/b\n0 list /a\n",
+            "1 0 0 notfound\n2 0 1 notfound\n",
+        ),
+        (
+            "0 mkdir /g\n0 mkdir /f\n0 mkdir /e\n0 mkdir /d\n0 mkdir /c\n0 mkdir /b\n0 mkdir /a\n0 mkdir /a/h\n0 list /\n",
+            "1 0 0 ok\n2 0 1 ok\n3 0 2 ok\n4 0 3 ok\n5 0 4 ok\n6 0 5 ok\n7 0 6 ok\n8 0 7 nonodes\n9 0 8 names a b c d e f g\n",
+        ),
+    ];
+    for (input, want) in table {
+        let (status, written) = outcome(rt.alloc(), &["play"], input.as_bytes())?;
+        assert_eq!(rt; status.code(), 0, "at {input}");
+        assert_eq!(rt; status.fault().copied(), None, "at {input}");
+        assert_eq!(rt; written.as_slice(), want.as_bytes(), "at {input}");
+    }
+    Ok(())
+}
+
+#[test]
+fn takes_one_command(rt: HostRuntime) -> Result<(), Fail> {
+    let table: [&[&str]; 5] = [&["mak"], &[], &["play", "play"], &["play "], &[""]];
+    for words in table {
+        let (status, written) = outcome(rt.alloc(), words, b"0 list /\n")?;
+        assert_eq!(rt; status.code(), 1);
+        assert_eq!(rt; status.fault().copied(), Some(Fault::Words));
+        assert_eq!(rt; written.len(), 0);
+    }
+    Ok(())
+}
+
+#[test]
+fn refuses_what_is_no_script(rt: HostRuntime) -> Result<(), Fail> {
+    let alloc = rt.alloc();
+    let long = b"0".repeat(alloc, 20_001)?;
+    let table: [&[u8]; 12] = [
+        b"0 mkdir a\n",
+        b"1 list /\n",
+        b"0 list\n",
+        b"0 list / /\n",
+        b"\n",
+        b"0 list /\n\n",
+        b"00 list /\n",
+        b"0 list /\r\n",
+        b"0 mkdir /abcdefghijklmnopqrstuvwxyza\n",
+        b"0 mkdir /a/b/c/d/e/f/g/h/i/j/k/l/m/n/o/p/q\n",
+        &[0xFF, 0xFE],
+        &long,
+    ];
+    for input in table {
+        let (status, written) = outcome(alloc, &["play"], input)?;
+        assert_eq!(rt; status.code(), 2, "at {input:?}");
+        assert_eq!(rt; status.fault().copied(), Some(NO_SCRIPT), "at {input:?}");
+        assert_eq!(rt; written.len(), 0, "at {input:?}");
+    }
+    Ok(())
+}
+
+#[test]
+fn keeps_the_limit_of_lines(rt: HostRuntime) -> Result<(), Fail> {
+    let alloc = rt.alloc();
+    let mut many = b"0 list /\n".repeat(alloc, 65_536)?;
+    let (status, written) = outcome(alloc, &["play"], &many)?;
+    assert_eq!(rt; status.code(), 0);
+    assert!(rt; written.ends_with(b"\n65536 0 65535 names\n"));
+    many.extend_from_slice(b"0 list /\n")?;
+    let (status, written) = outcome(alloc, &["play"], &many)?;
+    assert_eq!(rt; status.fault().copied(), Some(NO_SCRIPT));
+    assert_eq!(rt; written.len(), 0);
+    Ok(())
+}
+
+#[test]
+fn keeps_the_limit_of_bytes(rt: HostRuntime) -> Result<(), Fail> {
+    let alloc = rt.alloc();
+    // 16 names of 26 letters make lines of 440 bytes; 38,130 of them have 16,777,200 bytes
+    let mut line = Vec::from_slice(alloc, b"0 list ")?;
+    line.extend_from_slice(&b"/abcdefghijklmnopqrstuvwxyz".repeat(alloc, 16)?)?;
+    line.push(b'\n')?;
+    let mut large = line.repeat(alloc, 38_130)?;
+    large.extend_from_slice(b"0 list /aaaaaaa\n")?;
+    let (status, written) = outcome(alloc, &["play"], &large)?;
+    assert_eq!(rt; status.code(), 0);
+    assert!(rt; written.ends_with(b"\n38131 0 38130 notfound\n"));
+    large.truncate(16_777_200);
+    large.extend_from_slice(b"0 list /aaaaaaaa\n")?;
+    let (status, written) = outcome(alloc, &["play"], &large)?;
+    assert_eq!(rt; status.fault().copied(), Some(NO_SCRIPT));
+    assert_eq!(rt; written.len(), 0);
+    Ok(())
+}
+
+#[test]
+fn tells_faults_of_the_streams(rt: HostRuntime) -> Result<(), Fail> {
+    let alloc = rt.alloc();
+    let words = words_of(alloc, &["play"])?;
+    let table: [(&[u64], &[u64], Option<Fault>, &str); 5] = [
+        (&[0], &[], Some(Fault::Input), ""),
+        (&[1], &[], Some(Fault::Input), ""),
+        (&[], &[0], Some(Fault::Output), ""),
+        (&[0], &[0], Some(Fault::Input), ""),
+        (&[], &[], None, "1 0 0 names\n"),
+    ];
+    for (reads, writes, want, text) in table {
+        let mut source = MemSource::new(alloc, b"0 list /\n", reads)?;
+        let mut sink = MemSink::new(alloc, writes)?;
+        let status = zj_tool(alloc, &words, &mut source, &mut sink);
+        assert_eq!(rt; status.fault().copied(), want);
+        assert_eq!(rt; sink.bytes(), text.as_bytes());
+    }
+    Ok(())
+}
+
+#[test]
+fn spells_faults(rt: HostRuntime) -> Result<(), Fail> {
+    let table = [
+        (Fault::Words, 1, "words"),
+        (NO_SCRIPT, 2, "script line 0 column 0 kind 0"),
+        (Fault::Memory, 5, "memory"),
+        (Fault::Input, 6, "input"),
+        (Fault::Output, 7, "output"),
+    ];
+    for (fault, code, want) in table {
+        let status = Status::new(Some(fault));
+        assert_eq!(rt; status.code(), code);
+        assert_eq!(rt; fault.to_string(rt.alloc())?.as_str(), want);
+    }
+    Ok(())
+}
+
+// The line of an answer with this reply.
+fn spelled(alloc: Global, reply: Reply) -> Result<Vec<u8>, AllocError> {
+    let answer = Answer {
+        line: 4_294_967_295,
+        core: 10,
+        ticket: 18_446_744_073_709_551_615,
+        reply,
+    };
+    let mut out = Vec::new(alloc);
+    write_answer(alloc, &answer, &mut out)?;
+    Ok(out)
+}
+
+fn data(alloc: Global, bytes: &[u8]) -> Result<Reply, AllocError> {
+    let mut data = Bytes::new(alloc);
+    data.extend(bytes)?;
+    Ok(Reply::Data(data))
+}
+
+fn listed(alloc: Global, texts: &[&str]) -> Result<Reply, AllocError> {
+    let mut names = Names::new(alloc);
+    for text in texts {
+        if let Some(name) = Name::new(text.as_bytes()) {
+            names.push(name)?;
+        }
+    }
+    Ok(Reply::Listed(names))
+}
+
+#[test]
+fn spells_replies(rt: HostRuntime) -> Result<(), Fail> {
+    let alloc = rt.alloc();
+    let table = [
+        (Reply::Done, "ok"),
+        (data(alloc, b"")?, "data"),
+        (data(alloc, &[b'a', 37, 10, 255])?, "data a%25%0a%ff"),
+        (data(alloc, b" !~\x7f\x00")?, "data %20!~%7f%00"),
+        (listed(alloc, &[])?, "names"),
+        (listed(alloc, &["B", "a.b", "a_c"])?, "names B a.b a_c"),
+        (Reply::Dir { entries: 3 }, "dir 3"),
+        (Reply::File { size: 700 }, "file 700"),
+    ];
+    for (reply, want) in table {
+        let line = format!(in alloc; "4294967295 10 18446744073709551615 {want}\n")?;
+        assert_eq!(rt; spelled(alloc, reply)?.as_slice(), line.as_bytes());
+    }
+    Ok(())
+}
+
+#[test]
+fn spells_refusals(rt: HostRuntime) -> Result<(), Fail> {
+    let alloc = rt.alloc();
+    let table = [
+        (Refusal::NotFound, "notfound"),
+        (Refusal::NotDir, "notdir"),
+        (Refusal::IsDir, "isdir"),
+        (Refusal::Exists, "exists"),
+        (Refusal::NotEmpty, "notempty"),
+        (Refusal::Inside, "inside"),
+        (Refusal::TooBig, "toobig"),
+        (Refusal::NoNodes, "nonodes"),
+        (Refusal::NoSpace, "nospace"),
+        (Refusal::DirFull, "dirfull"),
+        (Refusal::PastEnd, "pastend"),
+    ];
+    for (refusal, want) in table {
+        let line = format!(in alloc; "4294967295 10 18446744073709551615 {want}\n")?;
+        assert_eq!(rt;
+            spelled(alloc, Reply::Refused(refusal))?.as_slice(),
+            line.as_bytes()
+        );
+    }
+    Ok(())
+}
