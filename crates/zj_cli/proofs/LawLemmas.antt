@@ -6,7 +6,7 @@ use Rattle.zj_tree.specs.declared.call.Call.TheVariants as calls
 use Rattle.zj_tree.specs.Path.{path_text}
 use Rattle.zj_tree.specs.Laws.{OneSpelling}
 use Rattle.zj_cli.specs.declared.script.Line.{Line}
-use Rattle.zj_cli.specs.Script.{call_text, is_spelled, line_text, IsLine, AreLines, IsScript}
+use Rattle.zj_cli.specs.Script.{call_text, is_spelled, AreLines}
 use Rattle.zj_cli.specs.Laws.{OneLine, OneScript}
 
 -- all bytes are above the space

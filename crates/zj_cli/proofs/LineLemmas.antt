@@ -1,11 +1,11 @@
 -- Cutting an input into lines, and reading a line.
-use Rattle.std.proofs.Common.{◌≡◌, ◌≢◌, ℕ, zero, suc, ◌+◌, ◌<◌, ◌≤◌, ◌-◌, Bool, true, false, not, cond, if◌then◌else◌, eqb, List, [], ◌∷◌, ◌++◌, length, take, drop, Some, None, position, decimal, IsTrue, refl, sym, ap, ◌∙◌, subst, arith, one-add, add-one, take_all, length-drop, drop_of_length-le}
+use Rattle.std.proofs.Common.{◌≡◌, ℕ, suc, ◌+◌, ◌<◌, ◌≤◌, ◌-◌, Bool, true, false, not, cond, if◌then◌else◌, List, [], ◌∷◌, ◌++◌, length, take, drop, Some, None, position, decimal, IsTrue, refl, sym, ap, ◌∙◌, subst, arith, one-add, add-one, take_all, length-drop}
 use Rattle.std.specs.List.{prefix_len}
 use Rattle.std.proofs.lemmas.Bool.Decides.{nat_tests}
 use Rattle.std.proofs.lemmas.Fmt.{decimal_digit}
 use Rattle.zj_tree.specs.declared.call.Call.{Call}
 use Rattle.zj_cli.specs.declared.script.Line.{Line}
-use Rattle.zj_cli.specs.Script.{call_text, is_spelled, line_text, IsLine, is_line_feed, with_first, lines_of, AreLines}
+use Rattle.zj_cli.specs.Script.{call_text, is_spelled, IsLine, is_line_feed, with_first, lines_of, AreLines}
 
 abbrev pub is_inside : ℕ → Bool
 is_inside byte = not (is_line_feed byte)

@@ -1,6 +1,5 @@
 -- What a call of the tool reads and writes, by the code that it ends with.
-use Rattle.std.specs.Prelude.{◌≡◌, ◌⊎◌, ℕ, ◌≤◌, List, [], ◌++◌, length, map, Option, Some, None, IfSome, String, string_bytes, codes, ◌∷◌}
-use Rattle.std.specs.Global.{Vec}
+use Rattle.std.specs.Prelude.{◌≡◌, ◌⊎◌, ℕ, ◌≤◌, List, [], ◌++◌, length, Option, Some, None, IfSome, codes, ◌∷◌}
 use Rattle.zj_dev.specs.Stream.{Gave, Took}
 use Rattle.zj_cli.specs.declared.script.Line.{Line}
 use Rattle.zj_cli.specs.declared.status.Fault.{Fault}

@@ -1,6 +1,5 @@
-use Rattle.std.proofs.Common.{◌≡◌, ◌+◌, ◌<◌, ◌≤◌, ◌-◌, length, take, drop, sym, ap, subst, arith, take_all, length-drop}
+use Rattle.std.proofs.Common.{◌<◌, length, sym, arith}
 use Rattle.std.proofs.lemmas.Bool.Decides.{nat_tests}
-use Rattle.zj_cli.specs.Script.{lines_of, is_line_feed}
 use Rattle.zj_cli.proofs.LineLemmas.{cut_found, no_cut, no_feed}
 use Rattle.zj_cli.proofs.script.cut_line.Goals as goal
 

@@ -1,6 +1,5 @@
 use Rattle.std.proofs.Common.{◌≡◌, ◌≢◌, ◌∷◌, List, ℕ, IsTrue, arith}
 use Rattle.std.proofs.lemmas.Grind.{common_steps}
-use Rattle.std.proofs.lemmas.Slice.Eq.{strip_prefix_is, bytes_eq-Decides}
 use Rattle.zj_tree.specs.declared.call.Call.{Call}
 use Rattle.zj_cli.specs.Script.{call_text, is_spelled}
 use Rattle.zj_cli.proofs.LineLemmas.{core_0, is_line}

@@ -1,4 +1,4 @@
-use Rattle.std.proofs.Common.{◌≡◌, ◌≢◌, ◌≤◌, ◌+◌, ℕ, List, [], ◌∷◌, ◌++◌, length, sym, ap, ◌∙◌, subst, arith, length-append, append_assoc, append-nil}
+use Rattle.std.proofs.Common.{◌≡◌, ◌+◌, ℕ, List, [], ◌∷◌, ◌++◌, length, sym, ap, ◌∙◌, subst, arith, length-append, append_assoc, append-nil}
 use Rattle.zj_cli.specs.declared.script.Line.{Line}
 use Rattle.zj_cli.specs.Script.{lines_of, AreLines, IsLine}
 use Rattle.zj_cli.proofs.LineLemmas.{as_many, line_added, none_spelled}

@@ -1,4 +1,4 @@
-use Rattle.std.proofs.Common.{◌≡◌, ◌≤◌, ◌-◌, ℕ, List, ◌++◌, ◌+◌, length, take, arith, length-append, length-take}
+use Rattle.std.proofs.Common.{◌≤◌, ◌-◌, ℕ, List, ◌++◌, length, take, arith, length-append, length-take}
 use Rattle.zj_dev.specs.Stream.{Gave}
 use Rattle.zj_cli.proofs.StreamLemmas.{gave_more, on_err}
 use Rattle.zj_cli.proofs.stream.read_whole.Goals as goal

@@ -1,4 +1,4 @@
-use Rattle.std.proofs.Common.{◌≡◌, ◌∷◌, [], ℕ, List, map, string_bytes, IsTrue, Decides, ◌∙◌, sym, ap, rules, arith}
+use Rattle.std.proofs.Common.{◌≡◌, ◌∷◌, [], ℕ, List, map, string_bytes, IsTrue, Decides, ◌∙◌, sym, ap, rules}
 use Rattle.std.proofs.lemmas.Slice.Eq.{bytes_eq-Decides}
 use Rattle.zj_cli.proofs.WordLemmas.{one_item}
 use Rattle.zj_cli.proofs.tool.is_play.Goals as goal
