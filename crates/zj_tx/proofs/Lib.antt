@@ -1,0 +1,4 @@
+pub mod Fronts
+pub mod Overwrites
+pub mod Records
+pub mod Spelling

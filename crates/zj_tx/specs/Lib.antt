@@ -1,0 +1,5 @@
+pub mod Fault
+pub mod Laws
+pub mod Reading
+pub mod Record
+pub mod Writing
