@@ -1,8 +1,7 @@
 //! The transactions that were found in a journal.
 
-ghost use Rattle.std.specs.Prelude.{◌≡◌, ◌↔◌, [], ◌∷◌, ◌++◌, IsTrue, IfSome, OnOk, OnErr, length, slice_get};
+ghost use Rattle.std.specs.Prelude.{◌≡◌, ◌↔◌, [], ◌∷◌, ◌++◌, IsTrue, OnOk, OnErr, length, slice_get};
 ghost use Rattle.std.specs.Option.{option_copied};
-ghost use Rattle.zj_tx.specs.Record.{IsRecord};
 
 use crate::sealed::Sealed;
 use std::alloc::{AllocError, Global};

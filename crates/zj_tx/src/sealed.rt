@@ -1,8 +1,8 @@
 //! A transaction that is sealed.
 
 ghost use Rattle.std.specs.Prelude.{◌≡◌, length, slice_get};
-ghost use Rattle.std.specs.Option.{option_copied, option_map};
-ghost use Rattle.zj_tx.specs.Record.{IsRecord, record_bytes, record_of};
+ghost use Rattle.std.specs.Option.{option_map};
+ghost use Rattle.zj_tx.specs.Record.{IsRecord, record_bytes};
 
 use crate::part::Part;
 use std::marker::Model;

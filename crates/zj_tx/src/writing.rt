@@ -1,9 +1,8 @@
 //! Writing a record.
 
 ghost use Rattle.std.specs.Prelude.{◌≡◌, ◌+◌, ◌*◌, ◌≤◌, length};
-ghost use Rattle.std.specs.List.{AllByRecursion};
-ghost use Rattle.zj_block.specs.Block.{IsContent, bytes_of};
-ghost use Rattle.zj_tx.specs.Record.{IsPart, IsRecord, bounds_bytes, head_bytes, part_bytes, parts_bytes, record_bytes, record_of};
+ghost use Rattle.zj_block.specs.Block.{bytes_of};
+ghost use Rattle.zj_tx.specs.Record.{bounds_bytes, head_bytes, part_bytes, parts_bytes, record_bytes, record_of};
 ghost use Rattle.zj_tx.specs.Writing.{over_front};
 
 use crate::fields::{put_u32, put_u64};
