@@ -1,0 +1,4 @@
+pub mod Super
+pub mod Home
+pub mod Told
+pub mod Made

@@ -1,0 +1,161 @@
+//! The home device: opening it, and reading its super and its blocks.
+
+ghost use Rattle.std.specs.Prelude.{◌≡◌, ◌+◌, ◌<◌, None, Some, IfOk, IfErr, OnOk, OnErr, IfSome, length, slice_get, vec_len};
+ghost use Rattle.zj_block.specs.Block.{IsContent, bytes_of};
+ghost use Rattle.zj_dev.specs.Fault.{Rose};
+ghost use Rattle.zj_dev.specs.Disk.{LeavesAll};
+ghost use Rattle.zj_home.specs.Home.{ReadsOnly, IsCause};
+ghost use Rattle.zj_home.specs.Made.{IsMade, IsFailure, first_super};
+ghost use Rattle.zj_home.specs.Told.{super_told};
+ghost use Rattle.zj_home.specs.Super.{image_fault, super_of, home_length, block_bytes_in};
+
+use crate::fault::{DiskFault, HomeFault, HomeRefused};
+use crate::make::make_on;
+use crate::slot::{HEAD_LEN, Told, read_super};
+use std::alloc::{AllocError, Global};
+use std::marker::Model;
+use zj_block::{BLOCK_LEN, Block, BlockNo, Blocks, Sizes, Tail};
+use zj_dev::Disk;
+
+/// A home that was opened or made: its device, and what its super tells.
+#[derive(Debug, Drop)]
+pub struct Home<D: Disk> {
+    device: D,
+    told: Told,
+}
+
+impl<D: Disk> Model for Home<D> {
+    ghost use Rattle.std.specs.Prelude.{◌≡◌};
+    ghost use Rattle.zj_home.specs.Home.{HomeView};
+    ghost use Rattle.zj_home.specs.Super.{home_length};
+    ghost use Rattle.zj_home.specs.Told.{super_told};
+
+    ghost Value = { HomeView D };
+
+    ghost view = { λ h. record { device = h.device; told = super_told h.told } };
+
+    ghost invariant = { λ h. (D.view h.device).size ≡ home_length h.told.sizes };
+}
+
+/// That many zeros.
+fn zeros(alloc: Global, count: usize) -> Result<Vec<u8>, AllocError>
+    ensures { IfOk result (λ v. vec_len v ≡ count) }
+{
+    vec![in alloc; 0u8; count]
+}
+
+/// Reads the super of a device, if it is a home's.
+fn read_told<D: Disk>(alloc: Global, d: &mut D) -> Result<Told, HomeFault>
+    ensures told { IfOk result (λ told. IfSome (D.view d.old).bytes (λ image. (image_fault image ≡ None) × (super_of image ≡ Some (super_told told)))) }
+    ensures size { IfOk result (λ told. (D.view d.old).size ≡ home_length told.sizes) }
+    ensures read { OnOk result (LeavesAll (D.view d.old) (D.view d.new)) }
+    ensures left { ReadsOnly (D.view d.old) (D.view d.new) }
+    ensures cause { IfErr result (IsCause (D.view d.old) (D.view d.new)) }
+{
+    let len = d.len();
+    if len < HEAD_LEN as u64 {
+        return Err(HomeFault::NotAnImage { at: 0 });
+    }
+    let Ok(mut head) = zeros(alloc, HEAD_LEN) else {
+        return Err(HomeFault::NoMemory);
+    };
+    if d.read(0, &mut head).is_err() {
+        return Err(HomeFault::DiskFault);
+    }
+    read_super(&head, len)
+}
+
+impl<D: Disk> Home<D> {
+    /// Makes a device a home with these sizes and blocks, in place of what it held. After Ok whatever a crash
+    /// may leave is that home, of epoch 1 and with all tails 0.
+    ///
+    /// `DiskFault` tells that the device failed, and `NoMemory` that there was none. The device is then given
+    /// back, and may hold anything.
+    pub fn make(
+        alloc: Global,
+        d: D,
+        sizes: &Sizes,
+        blocks: &Blocks,
+    ) -> Result<Home<D>, HomeRefused<D>>
+        requires size { (D.view d).size ≡ home_length sizes.now }
+        requires many { length blocks.now ≡ sizes.now.blocks }
+        ensures made { IfOk result (λ home. IsMade (first_super sizes.now) blocks.now (D.view home.device)) }
+        ensures told { IfOk result (λ home. home.told ≡ first_super sizes.now) }
+        ensures cause { IfErr result (λ refused. IsFailure (D.view d) (D.view refused.device) refused.fault) }
+    {
+        let mut device = d;
+        match make_on(alloc, &mut device, sizes, blocks) {
+            Ok(told) => Ok(Home { device, told }),
+            Err(fault) => Err(HomeRefused { device, fault }),
+        }
+    }
+
+    /// Opens a device that was made a home. It writes nothing.
+    ///
+    /// `NotAnImage`, `Version` and `Sizes` tell the first thing about the device's bytes that is no home's,
+    /// `DiskFault` that the device failed, and `NoMemory` that there was none. The device is then given back.
+    pub fn open(alloc: Global, d: D) -> Result<Home<D>, HomeRefused<D>>
+        ensures told { IfOk result (λ home. IfSome (D.view d).bytes (λ image. (image_fault image ≡ None) × (super_of image ≡ Some home.told))) }
+        ensures size { IfOk result (λ home. (D.view d).size ≡ home_length home.told.sizes) }
+        ensures read { IfOk result (λ home. LeavesAll (D.view d) (D.view home.device)) }
+        ensures left { IfErr result (λ refused. ReadsOnly (D.view d) (D.view refused.device)) }
+        ensures cause { IfErr result (λ refused. IsCause (D.view d) (D.view refused.device) refused.fault) }
+    {
+        let mut device = d;
+        match read_told(alloc, &mut device) {
+            Ok(told) => Ok(Home { device, told }),
+            Err(fault) => Err(HomeRefused { device, fault }),
+        }
+    }
+
+    /// The sizes of the image.
+    pub fn sizes(&self) -> &Sizes
+        ensures { result.now ≡ self.now.told.sizes }
+    {
+        &self.told.sizes
+    }
+
+    /// How often the super was replaced, counted from 1.
+    pub fn epoch(&self) -> u64
+        ensures { result ≡ self.now.told.epoch }
+    {
+        self.told.epoch
+    }
+
+    /// Where the journal of a core begins: `None` exactly from the image's count of cores on.
+    pub fn tail(&self, core: u32) -> Option<Tail>
+        ensures tail { result ≡ slice_get self.now.told.tails core }
+        ensures many { length self.now.told.tails ≡ self.now.told.sizes.cores }
+    {
+        let cores = self.told.sizes.cores();
+        let tail = self.told.tails.at(core);
+        if core < cores { tail } else { None }
+    }
+
+    /// Reads a block. After `DiskFault` `into` is as it was.
+    pub fn read_block(&mut self, b: BlockNo, into: &mut Block) -> Result<(), DiskFault>
+        requires { b.0 < self.old.told.sizes.blocks }
+        ensures block { OnOk result (IfSome (D.view self.old.device).bytes (λ image. bytes_of into.new ≡ block_bytes_in image b.0)) }
+        ensures content { OnOk result (IsContent into.new) }
+        ensures kept { OnErr result (into.new ≡ into.old) }
+        ensures left { LeavesAll (D.view self.old.device) (D.view self.new.device) }
+        ensures told { self.new.told ≡ self.old.told }
+        ensures cause { OnErr result (Rose (D.view self.old.device).faults (D.view self.new.device).faults) }
+    {
+        let mut bytes = [0u8; BLOCK_LEN];
+        let at = HEAD_LEN as u64 + 512 * u64::from(b.0);
+        if self.device.read(at, &mut bytes).is_err() {
+            return Err(DiskFault);
+        }
+        *into = Block::from_bytes(&bytes);
+        Ok(())
+    }
+
+    /// The device.
+    pub fn into_device(self) -> D
+        ensures { result ≡ self.device }
+    {
+        let Home { device, told: _ } = self;
+        device
+    }
+}

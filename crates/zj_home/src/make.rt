@@ -1,0 +1,169 @@
+//! Making a home, call by call.
+
+ghost use Rattle.std.specs.Prelude.{◌≡◌, ℕ, ◌+◌, ◌*◌, ◌<◌, ◌≤◌, [], ◌∷◌, ◌++◌, true, Some, IfOk, OnOk, OnErr, IfErr, IfSome, length, take, drop, List, option_map};
+ghost use Rattle.zj_block.specs.Block.{bytes_of};
+ghost use Rattle.zj_dev.specs.Fault.{Rose};
+ghost use Rattle.zj_dev.specs.Disk.{IsDisk, replaced};
+ghost use Rattle.zj_home.specs.Super.{home_length};
+ghost use Rattle.zj_home.specs.Told.{super_told};
+ghost use Rattle.zj_home.specs.Made.{GoesFurther, HoldsBlocks, IsLaidOut, IsMade, IsFailure, first_slot as slot_of, first_super};
+
+use crate::fault::{DiskFault, HomeFault};
+use crate::slot::{HEAD_LEN, LETTERS, OPEN, SECOND_SLOT, Told, home_len};
+use std::alloc::{AllocError, Global};
+use zj_block::{BLOCK_LEN, Block, Blocks, Sizes, Tails};
+use zj_dev::Disk;
+
+/// The gate of a slot that is closed.
+const CLOSED: u8 = 0;
+
+/// The epoch of a home that was just made.
+pub const FIRST_EPOCH: u64 = 1;
+
+/// The bytes of the first slot of a home that was just made, with the gate open.
+pub fn first_slot(alloc: Global, sizes: &Sizes) -> Result<Vec<u8>, AllocError>
+    ensures { IfOk result (λ slot. slot.items ≡ slot_of sizes.now) }
+{
+    let mut slot = Vec::new(alloc);
+    slot.push(OPEN)?;
+    slot.extend_from_slice(LETTERS)?;
+    slot.extend_from_slice(&FIRST_EPOCH.to_le_bytes())?;
+    slot.extend_from_slice(&sizes.version().to_le_bytes())?;
+    slot.extend_from_slice(&sizes.cores().to_le_bytes())?;
+    slot.extend_from_slice(&sizes.blocks().to_le_bytes())?;
+    slot.extend_from_slice(&sizes.nodes().to_le_bytes())?;
+    slot.extend_from_slice(&sizes.area().to_le_bytes())?;
+    let len = 40 + 16 * sizes.cores() as usize;
+    slot.resize(len, 0)?;
+    Ok(slot)
+}
+
+/// Writes a piece.
+fn write_at<D: Disk>(d: &mut D, at: u64, piece: &[u8]) -> Result<(), DiskFault>
+    requires { at + length piece.now ≤ (D.view d.old).size }
+    ensures ok { OnOk result ((D.view d.new).bytes ≡ option_map (λ bytes. replaced bytes at piece.now) (D.view d.old).bytes) }
+    ensures kept { GoesFurther (D.view d.old) (D.view d.new) }
+    ensures cause { OnErr result (Rose (D.view d.old).faults (D.view d.new).faults) }
+{
+    match d.write(at, piece) {
+        Ok(()) => Ok(()),
+        Err(_) => Err(DiskFault),
+    }
+}
+
+/// Makes all that was written outlast a crash.
+fn sync<D: Disk>(d: &mut D) -> Result<(), DiskFault>
+    ensures ok { OnOk result ((D.view d.new).bytes ≡ (D.view d.old).bytes) }
+    ensures only { OnOk result ((image : List ℕ) → (D.view d.new).may_leave (D.view d.new).calls image ≡ true → (D.view d.new).bytes ≡ Some image) }
+    ensures kept { GoesFurther (D.view d.old) (D.view d.new) }
+    ensures cause { OnErr result (Rose (D.view d.old).faults (D.view d.new).faults) }
+{
+    match d.sync() {
+        Ok(()) => Ok(()),
+        Err(_) => Err(DiskFault),
+    }
+}
+
+/// Writes a block to its place.
+fn write_block<D: Disk>(d: &mut D, b: usize, block: &Block) -> Result<(), DiskFault>
+    requires within { 8192 + 512 * b + 512 ≤ (D.view d.old).size }
+    requires few { b < 4096 }
+    ensures ok { OnOk result ((D.view d.new).bytes ≡ option_map (λ bytes. replaced bytes (8192 + 512 * b) (bytes_of block.now)) (D.view d.old).bytes) }
+    ensures many { length (bytes_of block.now) ≡ 512 }
+    ensures kept { GoesFurther (D.view d.old) (D.view d.new) }
+    ensures cause { OnErr result (Rose (D.view d.old).faults (D.view d.new).faults) }
+{
+    let mut bytes = [0u8; BLOCK_LEN];
+    block.to_bytes(&mut bytes);
+    write_at(d, (HEAD_LEN + BLOCK_LEN * b) as u64, &bytes)
+}
+
+/// Closes both gates, so that no crash leaves an open one.
+pub fn close_gates<D: Disk>(d: &mut D) -> Result<(), DiskFault>
+    requires { 8192 ≤ (D.view d.old).size }
+    ensures ok { OnOk result ((D.view d.new).bytes ≡ option_map (λ bytes. replaced (replaced bytes 0 (0 ∷ [])) 4096 (0 ∷ [])) (D.view d.old).bytes) }
+    ensures kept { GoesFurther (D.view d.old) (D.view d.new) }
+    ensures cause { OnErr result (Rose (D.view d.old).faults (D.view d.new).faults) }
+{
+    write_at(d, 0, &[CLOSED])?;
+    write_at(d, SECOND_SLOT as u64, &[CLOSED])?;
+    sync(d)
+}
+
+/// Writes the first slot: its body, and once that outlasts a crash its gate.
+pub fn write_slot<D: Disk>(d: &mut D, slot: &[u8]) -> Result<(), DiskFault>
+    requires some { 1 ≤ length slot.now }
+    requires within { length slot.now ≤ (D.view d.old).size }
+    ensures ok { OnOk result ((D.view d.new).bytes ≡ option_map (λ bytes. replaced (replaced bytes 1 (drop 1 slot.now)) 0 (take 1 slot.now)) (D.view d.old).bytes) }
+    ensures only { OnOk result ((image : List ℕ) → (D.view d.new).may_leave (D.view d.new).calls image ≡ true → (D.view d.new).bytes ≡ Some image) }
+    ensures kept { GoesFurther (D.view d.old) (D.view d.new) }
+    ensures cause { OnErr result (Rose (D.view d.old).faults (D.view d.new).faults) }
+{
+    let (gate, body) = slot.split_at(1);
+    write_at(d, 1, body)?;
+    sync(d)?;
+    write_at(d, 0, gate)?;
+    sync(d)
+}
+
+/// Writes all blocks to their places.
+fn write_blocks<D: Disk>(d: &mut D, blocks: &Blocks) -> Result<(), DiskFault>
+    requires is_disk { IsDisk (D.view d.old) }
+    requires size { (D.view d.old).size ≡ 8192 + 512 * length blocks.now }
+    requires few { length blocks.now ≤ 4096 }
+    ensures ok { OnOk result (IfSome (D.view d.new).bytes (λ image. HoldsBlocks image blocks.now (length blocks.now))) }
+    ensures kept { GoesFurther (D.view d.old) (D.view d.new) }
+    ensures cause { OnErr result (Rose (D.view d.old).faults (D.view d.new).faults) }
+{
+    for b in 0..blocks.len() {
+        write_block(d, b, blocks.at(b).unwrap())?;
+    }
+    Ok(())
+}
+
+/// Writes the image of a home, the gate of its slot last.
+fn write_image<D: Disk>(d: &mut D, slot: &[u8], blocks: &Blocks) -> Result<(), DiskFault>
+    requires is_disk { IsDisk (D.view d.old) }
+    requires size { (D.view d.old).size ≡ 8192 + 512 * length blocks.now }
+    requires few { length blocks.now ≤ 4096 }
+    requires some { 1 ≤ length slot.now }
+    requires short { length slot.now ≤ 4096 }
+    ensures ok { OnOk result (IfSome (D.view d.new).bytes (λ image. IsLaidOut slot.now blocks.now (D.view d.old).size image)) }
+    ensures only { OnOk result ((image : List ℕ) → (D.view d.new).may_leave (D.view d.new).calls image ≡ true → (D.view d.new).bytes ≡ Some image) }
+    ensures kept { GoesFurther (D.view d.old) (D.view d.new) }
+    ensures cause { OnErr result (Rose (D.view d.old).faults (D.view d.new).faults) }
+{
+    write_blocks(d, blocks)?;
+    close_gates(d)?;
+    write_slot(d, slot)
+}
+
+/// Makes a home on a device of its length.
+pub fn make_on<D: Disk>(
+    alloc: Global,
+    d: &mut D,
+    sizes: &Sizes,
+    blocks: &Blocks,
+) -> Result<Told, HomeFault>
+    requires size { (D.view d.old).size ≡ home_length sizes.now }
+    requires many { length blocks.now ≡ sizes.now.blocks }
+    ensures made { OnOk result (IsMade (first_super sizes.now) blocks.now (D.view d.new)) }
+    ensures told { IfOk result (λ told. super_told told ≡ first_super sizes.now) }
+    ensures same_sizes { IfOk result (λ told. told.sizes ≡ sizes.now) }
+    ensures size { (D.view d.new).size ≡ (D.view d.old).size }
+    ensures cause { IfErr result (IsFailure (D.view d.old) (D.view d.new)) }
+{
+    let len = d.len();
+    prove!(len == home_len(sizes));
+    let Ok(slot) = first_slot(alloc, sizes) else {
+        return Err(HomeFault::NoMemory);
+    };
+    if write_image(d, &slot, blocks).is_err() {
+        return Err(HomeFault::DiskFault);
+    }
+    Ok(Told {
+        epoch: FIRST_EPOCH,
+        sizes: *sizes,
+        tails: Tails::zero(),
+    })
+}
