@@ -54,6 +54,30 @@ pub record LeavesAll (old new : DiskView) : Type 0 where
   pub bytes : new.bytes ≡ old.bytes
   pub images : (image : List ℕ) → new.may_leave new.calls image ≡ old.may_leave old.calls image
 
+-- Some calls were made, or none. What was told of earlier moments stays so.
+pub record Continues (old new : DiskView) : Type 0 where
+  pub size : new.size ≡ old.size
+  pub calls : old.calls ≤ new.calls
+  pub no_fewer : old.faults ≤ new.faults
+  pub told : is_some new.bytes ≡ is_some old.bytes
+  pub images : (moment : ℕ) (image : List ℕ) → moment < old.calls → new.may_leave moment image ≡ old.may_leave moment image
+  pub past : (moment : ℕ) → moment < old.calls → new.faults_at moment ≡ old.faults_at moment
+
+-- Nothing was written and nothing synced: a read gives what it gave, and at each moment since a crash leaves what it
+-- left at first.
+pub record OnlyReads (old new : DiskView) : Type 0 where
+  pub goes_on : Continues old new
+  pub bytes : new.bytes ≡ old.bytes
+  pub images : (moment : ℕ) (image : List ℕ) → old.calls ≤ moment → moment ≤ new.calls → new.may_leave moment image ≡ old.may_leave old.calls image
+
+-- Whatever a crash leaves at a moment from that one on until now has this property.
+abbrev pub EachImageSince : ℕ → DiskView → (List ℕ → Type 0) → Type 0
+EachImageSince from disk P = (moment : ℕ) (image : List ℕ) → from ≤ moment → moment ≤ disk.calls → disk.may_leave moment image ≡ true → P image
+
+-- Nothing is pending: a crash now leaves what a read gives, and nothing else.
+abbrev pub IsSettled : DiskView → Type 0
+IsSettled disk = (image : List ℕ) → disk.may_leave disk.calls image ≡ true → disk.bytes ≡ Some image
+
 -- Each image now is an image from before, with any bytes in the range.
 abbrev pub TearsOnly : ℕ → ℕ → DiskView → DiskView → Type 0
 TearsOnly at count old new = (image : List ℕ) → new.may_leave new.calls image ≡ true →

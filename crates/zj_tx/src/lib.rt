@@ -17,7 +17,7 @@ mod writing;
 pub use fault::RecordFault;
 pub use found::Found;
 pub use part::Part;
-pub use reading::decode;
+pub use reading::{decode, len_from_head};
 pub use sealed::Sealed;
 pub use writing::encode;
 
