@@ -107,8 +107,8 @@ leaves_now : (start : List ℕ) (history : List Entry) (calls : ℕ) (now : Medi
 leaves_now start history calls now image is = ap (λ (m : Medium). leaves m image) (is.replay calls (omega arith))
 
 -- what the disk tells keeps the rules of a disk
-pub is_disk : (start : List ℕ) (history : List Entry) (failing : List ℕ) (stop calls : ℕ) (now : Medium) → IsHistory start history calls now → IsDisk (told start history failing stop calls now.bytes)
-is_disk start history failing stop calls now is = record {
+pub is_disk : (start : List ℕ) (history : List Entry) (failing : List ℕ) (stop calls : ℕ) (now : Medium) → IsHistory start history calls now → calls < 2 ^ 64 → IsDisk (told start history failing stop calls now.bytes)
+is_disk start history failing stop calls now is fits = record {
   current = leaves_now start history calls now now.bytes is ∙ is.current;
   filled = λ moment image le h.
       let m = medium_at moment (at_rest start) history in
@@ -116,6 +116,7 @@ is_disk start history failing stop calls now is = record {
       let n = size_is start history calls now is in
       (i.size ∙ is.settled_size moment ∙ sym n.0, image_bytes m.pending m.settled image i);
   faults_now = λ _. refl;
+  counted = fits;
 }
 
 -- One call more: what the disk told of earlier moments stays.
@@ -132,7 +133,7 @@ goes_on start history next failing stop stop' calls calls' now now' was is count
   told = refl;
   images = λ moment image early. ap (λ (m : Medium). leaves m image) (past moment early);
   past = λ moment early. faults_until-same (fails_at failing stop) (fails_at failing stop') moment (λ k l. same k (omega arith));
-  is_disk = is_disk start next failing stop' calls' now' is;
+  is_disk = is_disk start next failing stop' calls' now' is (omega arith);
 }
 
 -- A call that changes nothing.

@@ -32,11 +32,12 @@ pub record SameOutside (at count : ℕ) (old new : List ℕ) : Type 0 where
   pub behind : drop (at + count) new ≡ drop (at + count) old
 
 -- What holds of each disk that tells its bytes: a crash now may leave what a read gives, and what a crash may
--- leave fills the device.
+-- leave fills the device. The count of calls is one of 64 bits.
 pub record IsDisk (disk : DiskView) : Type 0 where
   pub current : IfSome disk.bytes (λ bytes. disk.may_leave disk.calls bytes ≡ true)
   pub filled : (moment : ℕ) (image : List ℕ) → moment ≤ disk.calls → disk.may_leave moment image ≡ true → (length image ≡ disk.size) × AreBytes image
   pub faults_now : IsSome disk.bytes → disk.faults_at disk.calls ≡ disk.faults
+  pub counted : disk.calls < 2 ^ 64
 
 -- One call more was made. Earlier moments stay as they were, and what was told is told.
 pub record GoesOn (old new : DiskView) : Type 0 where

@@ -21,6 +21,7 @@ pub struct FileDisk<F> {
     len: u64,
     calls: u64,
     faults: u64,
+    ghost counted: { calls < 2 ^ 64 },
 }
 
 impl<F> FileDisk<F> {

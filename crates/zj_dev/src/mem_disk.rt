@@ -1,6 +1,6 @@
 //! A disk in memory, which fails where it was told to and keeps what a crash may leave at each moment.
 
-ghost use Rattle.std.specs.Prelude.{◌≡◌, ◌+◌, ◌^◌, ◌≤◌, true, [], ◌∷◌, ◌++◌, length, All, IfOk, OnOk, OnErr};
+ghost use Rattle.std.specs.Prelude.{◌≡◌, ◌+◌, ◌^◌, ◌<◌, ◌≤◌, true, [], ◌∷◌, ◌++◌, length, All, IfOk, OnOk, OnErr};
 ghost use Rattle.zj_dev.specs.Disk.{replaced};
 ghost use Rattle.zj_dev.specs.Medium.{IsHistory, may_be, filled};
 
@@ -57,6 +57,7 @@ pub struct MemDisk {
     stop: u64,
     ghost history_is: { IsHistory start.items history.items calls (record { bytes = bytes.items; settled = settled.items; pending = pending.items }) },
     ghost ends: { stop ≤ 2 ^ 63 },
+    ghost counted: { calls < 2 ^ 64 },
 }
 
 /// Adds an entry to the history, and its extent to the pending ones. Want of memory leaves both.

@@ -1,0 +1,9 @@
+pub mod Calls
+pub mod Parts
+pub mod Found
+pub mod Readings
+pub mod Turns
+pub mod Outside
+pub mod Room
+pub mod Commits
+pub mod Keeps
