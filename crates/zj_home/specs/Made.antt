@@ -1,5 +1,5 @@
 -- What making a home leaves on its device.
-use Rattle.std.specs.Prelude.{◌≡◌, ◌≢◌, ◌⊎◌, ℕ, ◌*◌, ◌^◌, ◌<◌, true, List, ◌∷◌, ◌++◌, length, drop, slice_index, replicate, Some, None, IfSome, ⊤}
+use Rattle.std.specs.Prelude.{◌≡◌, ◌≢◌, ◌⊎◌, ℕ, ◌*◌, ◌^◌, ◌<◌, true, List, ◌∷◌, ◌++◌, length, drop, slice_index, replicate, Some, None, IfSome}
 use Rattle.std.specs.List.{slice_index_or, slice_range}
 use Rattle.std.specs.Int.{w32, w64, to_le_bytes}
 use Rattle.zj_block.specs.Block.{bytes_of, zero_content}
@@ -73,10 +73,10 @@ pub record GoesFurther (old new : DiskView) : Type 0 where
   pub counts : new.calls < 2 ^ 64
   pub is_disk : IsDisk new
 
--- a fault of the device comes where its count rose, and one of memory at any time; no other comes
+-- a fault of the device comes where its count rose, and one of memory before any call; no other comes
 abbrev pub IsFailure : DiskView → DiskView → HomeFault → Type 0
 IsFailure old new faults.DiskFault = Rose old.faults new.faults
-IsFailure old new faults.NoMemory = ⊤
+IsFailure old new faults.NoMemory = new ≡ old
 IsFailure old new (faults.NotAnImage at) = ⊥
 IsFailure old new (faults.Version found) = ⊥
 IsFailure old new (faults.Sizes found expected) = ⊥

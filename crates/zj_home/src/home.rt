@@ -52,6 +52,7 @@ fn read_told<D: Disk>(alloc: Global, d: &mut D) -> Result<Told, HomeFault>
     ensures cause { IfErr result (IsCause (D.view d.old) (D.view d.new)) }
 {
     let len = d.len();
+    // The count of calls fits its type, so it doesn't fall.
     let calls = d.calls();
     prove!(calls <= u64::MAX);
     if len < HEAD_LEN as u64 {
@@ -68,10 +69,11 @@ fn read_told<D: Disk>(alloc: Global, d: &mut D) -> Result<Told, HomeFault>
 
 impl<D: Disk> Home<D> {
     /// Makes a device a home with these sizes and blocks, in place of what it held. After Ok whatever a crash
-    /// may leave is that home, of epoch 1 and with all tails 0.
+    /// may leave is that home, of epoch 1 and with all tails 0. Where the letters stood behind no gate, a crash
+    /// at any moment until then leaves that home, or bytes that are refused as no image.
     ///
-    /// `DiskFault` tells that the device failed, and `NoMemory` that there was none. The device is then given
-    /// back, and may hold anything.
+    /// `DiskFault` tells that the device failed; it may hold anything. `NoMemory` tells that there was none, and
+    /// comes before any call. The device is given back.
     pub fn make(
         alloc: Global,
         d: D,
@@ -95,10 +97,11 @@ impl<D: Disk> Home<D> {
         }
     }
 
-    /// Opens a device that was made a home. It writes nothing.
+    /// Opens a device that was made a home. It only reads.
     ///
     /// `NotAnImage`, `Version` and `Sizes` tell the first thing about the device's bytes that is no home's,
-    /// `DiskFault` that the device failed, and `NoMemory` that there was none. The device is then given back.
+    /// `DiskFault` that the device failed, and `NoMemory` that there was none, before any call. The device is
+    /// then given back.
     pub fn open(alloc: Global, d: D) -> Result<Home<D>, HomeRefused<D>>
         ensures told { IfOk result (λ home. IfSome (D.view d).bytes (λ image. (image_fault image ≡ None) × (super_of image ≡ Some home.told))) }
         ensures size { IfOk result (λ home. (D.view d).size ≡ home_length home.told.sizes) }

@@ -173,6 +173,7 @@ pub fn make_on<D: Disk>(
 {
     let len = d.len();
     prove!(len == home_len(sizes));
+    // The count of calls fits its type, so it doesn't fall.
     let calls = d.calls();
     prove!(calls <= u64::MAX);
     let Ok(slot) = first_slot(alloc, sizes) else {
