@@ -1,9 +1,9 @@
 -- One more block at its place.
-use Rattle.std.proofs.Common.{◌≡◌, ℕ, ◌+◌, ◌*◌, ◌≤◌, List, length, Option, Some, None, refl, sym, ap, ◌∙◌, arith, inl, inr}
-use Rattle.std.specs.Prelude.{IfSome}
+use Rattle.std.proofs.Common.{◌≡◌, ℕ, ◌+◌, ◌*◌, ◌<◌, ◌≤◌, List, length, Bor, Option, Some, None, refl, sym, ap, ◌∙◌, arith, inl, inr}
+use Rattle.std.specs.Prelude.{IfSome, IsSome}
 use Rattle.std.specs.List.{slice_get, slice_index_or}
-use Rattle.std.proofs.lemmas.Option.{get_or_from_slice_get}
-use Rattle.std.specs.Option.{option_map}
+use Rattle.std.proofs.lemmas.Option.{get_or_from_slice_get, slice_get-get_or}
+use Rattle.std.specs.Option.{option_copied, option_map}
 use Rattle.std.proofs.lemmas.Bool.{cases_eq}
 use Rattle.zj_block.specs.Block.{bytes_of, zero_content}
 use Rattle.zj_dev.specs.Disk.{DiskView, IsDisk, replaced}
@@ -41,3 +41,8 @@ block_more disk new blocks b content is within many this e before =
 -- a block that was found at a place is the one there
 pub found_at : (blocks : List (List ℕ)) (b : ℕ) (content : List ℕ) → slice_get blocks b ≡ Some content → content ≡ slice_index_or blocks b zero_content
 found_at blocks b content e = sym (get_or_from_slice_get blocks b content zero_content e)
+
+-- a place below the count has a block
+pub some_at : (o : Option (Bor (List ℕ))) (blocks : List (List ℕ)) (b : ℕ) → option_copied o ≡ slice_get blocks b → b < length blocks → IsSome o
+some_at (Some block) blocks b e below = refl
+some_at None blocks b e below = let here = slice_get-get_or blocks b zero_content below in cc

@@ -55,7 +55,7 @@ super_by_head image head e = rw (← e) refl
 -- a fault that the bytes have is a cause
 pub cause_of : (old new : DiskView) (fault : HomeFault) → IsRefusal fault → IfSome old.bytes (λ image. image_fault image ≡ Some fault) → IsCause old new fault
 cause_of old new DiskFault is h = absurd is
-cause_of old new NoMemory is h = tt
+cause_of old new NoMemory is h = absurd is
 cause_of old new (NotAnImage at) is h = h
 cause_of old new (Version found) is h = h
 cause_of old new (Sizes found expected) is h = h

@@ -1,12 +1,12 @@
 -- What making a home leaves on its device.
-use Rattle.std.specs.Prelude.{◌≡◌, ℕ, ◌*◌, ◌<◌, ◌≤◌, true, List, ◌∷◌, ◌++◌, length, drop, slice_index, replicate, Some, None, IfSome, ⊤}
-use Rattle.std.specs.List.{slice_index_or}
+use Rattle.std.specs.Prelude.{◌≡◌, ◌≢◌, ◌⊎◌, ℕ, ◌*◌, ◌^◌, ◌<◌, true, List, ◌∷◌, ◌++◌, length, drop, slice_index, replicate, Some, None, IfSome}
+use Rattle.std.specs.List.{slice_index_or, slice_range}
 use Rattle.std.specs.Int.{w32, w64, to_le_bytes}
 use Rattle.zj_block.specs.Block.{bytes_of, zero_content}
 use Rattle.zj_block.specs.Numbers.{zero_tail}
 use Rattle.zj_block.specs.Sizes.{Numbers}
 use Rattle.zj_dev.specs.Fault.{Rose}
-use Rattle.zj_dev.specs.Disk.{DiskView, IsDisk}
+use Rattle.zj_dev.specs.Disk.{DiskView, IsDisk, SameOutside, Continues, EachImageSince}
 use Rattle.zj_home.specs.Super.{Super, letters, image_fault, super_of, block_bytes_in}
 use Rattle.zj_home.specs.declared.fault.HomeFault.{HomeFault}
 use Rattle.zj_home.specs.declared.fault.HomeFault.TheVariants as faults
@@ -41,16 +41,42 @@ pub record IsMade (super : Super) (blocks : List (List ℕ)) (disk : DiskView) :
   pub left : (image : List ℕ) → disk.may_leave disk.calls image ≡ true → IsHome super blocks image
   pub given : IfSome disk.bytes (λ image. IsHome super blocks image)
 
--- The disk is one of its size, and no fewer calls of it have failed.
+-- a device with these bytes is refused as none
+abbrev pub IsNoImage : List ℕ → Type 0
+IsNoImage image = (at : ℕ) × (image_fault image ≡ Some (faults.NotAnImage at))
+
+-- neither slot has the letters behind its gate, so that it is no home's, whatever the gate is
+pub record HasNoLetters (image : List ℕ) : Type 0 where
+  pub first : slice_range image 1 8 ≢ letters
+  pub second : slice_range image 4097 4104 ≢ letters
+
+-- neither slot is open
+pub record IsShut (image : List ℕ) : Type 0 where
+  pub first : slice_index image 0 ≢ 1
+  pub second : slice_index image 4096 ≢ 1
+
+-- If each image that a crash left at first has P, then each that it leaves at a moment since has Q.
+abbrev pub LeadsTo : (List ℕ → Type 0) → (List ℕ → Type 0) → DiskView → DiskView → Type 0
+LeadsTo P Q old new = ((image : List ℕ) → old.may_leave old.calls image ≡ true → P image) → EachImageSince old.calls new Q
+
+-- Where the letters stood behind no gate, a crash at any moment since leaves no image, or the home that is made.
+abbrev pub MakesOnly : Super → List (List ℕ) → DiskView → DiskView → Type 0
+MakesOnly super blocks old new = LeadsTo HasNoLetters (λ image. IsNoImage image ⊎ IsHome super blocks image) old new
+
+-- Each image since is one from the beginning, with any bytes in the range.
+abbrev pub TearsSince : ℕ → ℕ → DiskView → DiskView → Type 0
+TearsSince at count old new = EachImageSince old.calls new (λ image. (before : List ℕ) × (old.may_leave old.calls before ≡ true) × SameOutside at count before image)
+
+-- Some calls were made, whose count has not left its type, and the disk is still one.
 pub record GoesFurther (old new : DiskView) : Type 0 where
-  pub size : new.size ≡ old.size
-  pub no_fewer : old.faults ≤ new.faults
+  pub continues : Continues old new
+  pub counts : new.calls < 2 ^ 64
   pub is_disk : IsDisk new
 
--- a fault of the device comes where its count rose, and one of memory at any time; no other comes
+-- a fault of the device comes where its count rose, and one of memory before any call; no other comes
 abbrev pub IsFailure : DiskView → DiskView → HomeFault → Type 0
 IsFailure old new faults.DiskFault = Rose old.faults new.faults
-IsFailure old new faults.NoMemory = ⊤
+IsFailure old new faults.NoMemory = new ≡ old
 IsFailure old new (faults.NotAnImage at) = ⊥
 IsFailure old new (faults.Version found) = ⊥
 IsFailure old new (faults.Sizes found expected) = ⊥

@@ -3,9 +3,9 @@
 ghost use Rattle.std.specs.Prelude.{◌≡◌, ◌+◌, ◌<◌, None, Some, IfOk, IfErr, OnOk, OnErr, IfSome, length, slice_get, vec_len};
 ghost use Rattle.zj_block.specs.Block.{IsContent, bytes_of};
 ghost use Rattle.zj_dev.specs.Fault.{Rose};
-ghost use Rattle.zj_dev.specs.Disk.{LeavesAll};
-ghost use Rattle.zj_home.specs.Home.{ReadsOnly, IsCause};
-ghost use Rattle.zj_home.specs.Made.{IsMade, IsFailure, first_super};
+ghost use Rattle.zj_dev.specs.Disk.{LeavesAll, Continues, OnlyReads};
+ghost use Rattle.zj_home.specs.Home.{IsCause};
+ghost use Rattle.zj_home.specs.Made.{IsMade, IsFailure, MakesOnly, first_super};
 ghost use Rattle.zj_home.specs.Told.{super_told};
 ghost use Rattle.zj_home.specs.Super.{image_fault, super_of, home_length, block_bytes_in};
 
@@ -48,11 +48,13 @@ fn zeros(alloc: Global, count: usize) -> Result<Vec<u8>, AllocError>
 fn read_told<D: Disk>(alloc: Global, d: &mut D) -> Result<Told, HomeFault>
     ensures told { IfOk result (λ told. IfSome (D.view d.old).bytes (λ image. (image_fault image ≡ None) × (super_of image ≡ Some (super_told told)))) }
     ensures size { IfOk result (λ told. (D.view d.old).size ≡ home_length told.sizes) }
-    ensures read { OnOk result (LeavesAll (D.view d.old) (D.view d.new)) }
-    ensures left { ReadsOnly (D.view d.old) (D.view d.new) }
+    ensures left { OnlyReads (D.view d.old) (D.view d.new) }
     ensures cause { IfErr result (IsCause (D.view d.old) (D.view d.new)) }
 {
     let len = d.len();
+    // The count of calls fits its type, so it doesn't fall.
+    let calls = d.calls();
+    prove!(calls <= u64::MAX);
     if len < HEAD_LEN as u64 {
         return Err(HomeFault::NotAnImage { at: 0 });
     }
@@ -67,10 +69,11 @@ fn read_told<D: Disk>(alloc: Global, d: &mut D) -> Result<Told, HomeFault>
 
 impl<D: Disk> Home<D> {
     /// Makes a device a home with these sizes and blocks, in place of what it held. After Ok whatever a crash
-    /// may leave is that home, of epoch 1 and with all tails 0.
+    /// may leave is that home, of epoch 1 and with all tails 0. Where the letters stood behind no gate, a crash
+    /// at any moment until then leaves that home, or bytes that are refused as no image.
     ///
-    /// `DiskFault` tells that the device failed, and `NoMemory` that there was none. The device is then given
-    /// back, and may hold anything.
+    /// `DiskFault` tells that the device failed; it may hold anything. `NoMemory` tells that there was none, and
+    /// comes before any call. The device is given back.
     pub fn make(
         alloc: Global,
         d: D,
@@ -81,6 +84,10 @@ impl<D: Disk> Home<D> {
         requires many { length blocks.now ≡ sizes.now.blocks }
         ensures made { IfOk result (λ home. IsMade (first_super sizes.now) blocks.now (D.view home.device)) }
         ensures told { IfOk result (λ home. home.told ≡ first_super sizes.now) }
+        ensures continues { IfOk result (λ home. Continues (D.view d) (D.view home.device)) }
+        ensures refused_continues { IfErr result (λ refused. Continues (D.view d) (D.view refused.device)) }
+        ensures moments { IfOk result (λ home. MakesOnly (first_super sizes.now) blocks.now (D.view d) (D.view home.device)) }
+        ensures refused_moments { IfErr result (λ refused. MakesOnly (first_super sizes.now) blocks.now (D.view d) (D.view refused.device)) }
         ensures cause { IfErr result (λ refused. IsFailure (D.view d) (D.view refused.device) refused.fault) }
     {
         let mut device = d;
@@ -90,15 +97,16 @@ impl<D: Disk> Home<D> {
         }
     }
 
-    /// Opens a device that was made a home. It writes nothing.
+    /// Opens a device that was made a home. It only reads.
     ///
     /// `NotAnImage`, `Version` and `Sizes` tell the first thing about the device's bytes that is no home's,
-    /// `DiskFault` that the device failed, and `NoMemory` that there was none. The device is then given back.
+    /// `DiskFault` that the device failed, and `NoMemory` that there was none, before any call. The device is
+    /// then given back.
     pub fn open(alloc: Global, d: D) -> Result<Home<D>, HomeRefused<D>>
         ensures told { IfOk result (λ home. IfSome (D.view d).bytes (λ image. (image_fault image ≡ None) × (super_of image ≡ Some home.told))) }
         ensures size { IfOk result (λ home. (D.view d).size ≡ home_length home.told.sizes) }
-        ensures read { IfOk result (λ home. LeavesAll (D.view d) (D.view home.device)) }
-        ensures left { IfErr result (λ refused. ReadsOnly (D.view d) (D.view refused.device)) }
+        ensures left { IfOk result (λ home. OnlyReads (D.view d) (D.view home.device)) }
+        ensures refused_left { IfErr result (λ refused. OnlyReads (D.view d) (D.view refused.device)) }
         ensures cause { IfErr result (λ refused. IsCause (D.view d) (D.view refused.device) refused.fault) }
     {
         let mut device = d;

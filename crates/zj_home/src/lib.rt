@@ -4,7 +4,7 @@
 pub mod fault;
 pub mod home;
 mod make;
-pub mod slot;
+mod slot;
 
 pub use fault::{DiskFault, HomeFault, HomeRefused};
 pub use home::Home;

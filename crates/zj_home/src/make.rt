@@ -1,12 +1,12 @@
 //! Making a home, call by call.
 
-ghost use Rattle.std.specs.Prelude.{◌≡◌, ℕ, ◌+◌, ◌*◌, ◌<◌, ◌≤◌, [], ◌∷◌, ◌++◌, true, Some, IfOk, OnOk, OnErr, IfErr, IfSome, length, take, drop, List, option_map};
+ghost use Rattle.std.specs.Prelude.{◌≡◌, ℕ, ◌+◌, ◌*◌, ◌^◌, ◌<◌, ◌≤◌, ◌⊎◌, [], ◌∷◌, ◌++◌, true, Some, IfOk, OnOk, OnErr, IfErr, IfSome, length, take, drop, List, option_map};
 ghost use Rattle.zj_block.specs.Block.{bytes_of};
 ghost use Rattle.zj_dev.specs.Fault.{Rose};
-ghost use Rattle.zj_dev.specs.Disk.{IsDisk, replaced};
+ghost use Rattle.zj_dev.specs.Disk.{IsDisk, Continues, EachImageSince, IsSettled, replaced};
 ghost use Rattle.zj_home.specs.Super.{home_length};
 ghost use Rattle.zj_home.specs.Told.{super_told};
-ghost use Rattle.zj_home.specs.Made.{GoesFurther, HoldsBlocks, IsLaidOut, IsMade, IsFailure, first_slot as slot_of, first_super};
+ghost use Rattle.zj_home.specs.Made.{GoesFurther, HasNoLetters, HoldsBlocks, IsFailure, IsLaidOut, IsMade, IsNoImage, IsShut, LeadsTo, MakesOnly, TearsSince, first_slot as slot_of, first_super};
 
 use crate::fault::{DiskFault, HomeFault};
 use crate::slot::{HEAD_LEN, LETTERS, OPEN, SECOND_SLOT, Told, home_len};
@@ -40,8 +40,10 @@ pub fn first_slot(alloc: Global, sizes: &Sizes) -> Result<Vec<u8>, AllocError>
 
 /// Writes a piece.
 fn write_at<D: Disk>(d: &mut D, at: u64, piece: &[u8]) -> Result<(), DiskFault>
-    requires { at + length piece.now ≤ (D.view d.old).size }
+    requires within { at + length piece.now ≤ (D.view d.old).size }
+    requires counts { (D.view d.old).calls < 2 ^ 64 }
     ensures ok { OnOk result ((D.view d.new).bytes ≡ option_map (λ bytes. replaced bytes at piece.now) (D.view d.old).bytes) }
+    ensures torn { TearsSince at (length piece.now) (D.view d.old) (D.view d.new) }
     ensures kept { GoesFurther (D.view d.old) (D.view d.new) }
     ensures cause { OnErr result (Rose (D.view d.old).faults (D.view d.new).faults) }
 {
@@ -53,8 +55,11 @@ fn write_at<D: Disk>(d: &mut D, at: u64, piece: &[u8]) -> Result<(), DiskFault>
 
 /// Makes all that was written outlast a crash.
 fn sync<D: Disk>(d: &mut D) -> Result<(), DiskFault>
+    requires is_disk { IsDisk (D.view d.old) }
+    requires counts { (D.view d.old).calls < 2 ^ 64 }
     ensures ok { OnOk result ((D.view d.new).bytes ≡ (D.view d.old).bytes) }
-    ensures only { OnOk result ((image : List ℕ) → (D.view d.new).may_leave (D.view d.new).calls image ≡ true → (D.view d.new).bytes ≡ Some image) }
+    ensures only { OnOk result (IsSettled (D.view d.new)) }
+    ensures stays { EachImageSince (D.view d.old).calls (D.view d.new) (λ image. (D.view d.old).may_leave (D.view d.old).calls image ≡ true) }
     ensures kept { GoesFurther (D.view d.old) (D.view d.new) }
     ensures cause { OnErr result (Rose (D.view d.old).faults (D.view d.new).faults) }
 {
@@ -68,8 +73,10 @@ fn sync<D: Disk>(d: &mut D) -> Result<(), DiskFault>
 fn write_block<D: Disk>(d: &mut D, b: usize, block: &Block) -> Result<(), DiskFault>
     requires within { 8192 + 512 * b + 512 ≤ (D.view d.old).size }
     requires few { b < 4096 }
+    requires counts { (D.view d.old).calls < 2 ^ 64 }
     ensures ok { OnOk result ((D.view d.new).bytes ≡ option_map (λ bytes. replaced bytes (8192 + 512 * b) (bytes_of block.now)) (D.view d.old).bytes) }
     ensures many { length (bytes_of block.now) ≡ 512 }
+    ensures torn { TearsSince (8192 + 512 * b) 512 (D.view d.old) (D.view d.new) }
     ensures kept { GoesFurther (D.view d.old) (D.view d.new) }
     ensures cause { OnErr result (Rose (D.view d.old).faults (D.view d.new).faults) }
 {
@@ -80,8 +87,11 @@ fn write_block<D: Disk>(d: &mut D, b: usize, block: &Block) -> Result<(), DiskFa
 
 /// Closes both gates, so that no crash leaves an open one.
 pub fn close_gates<D: Disk>(d: &mut D) -> Result<(), DiskFault>
-    requires { 8192 ≤ (D.view d.old).size }
+    requires long { 8192 ≤ (D.view d.old).size }
+    requires counts { (D.view d.old).calls < 2 ^ 64 }
     ensures ok { OnOk result ((D.view d.new).bytes ≡ option_map (λ bytes. replaced (replaced bytes 0 (0 ∷ [])) 4096 (0 ∷ [])) (D.view d.old).bytes) }
+    ensures only { OnOk result (IsSettled (D.view d.new)) }
+    ensures moments { LeadsTo HasNoLetters HasNoLetters (D.view d.old) (D.view d.new) }
     ensures kept { GoesFurther (D.view d.old) (D.view d.new) }
     ensures cause { OnErr result (Rose (D.view d.old).faults (D.view d.new).faults) }
 {
@@ -92,10 +102,13 @@ pub fn close_gates<D: Disk>(d: &mut D) -> Result<(), DiskFault>
 
 /// Writes the first slot: its body, and once that outlasts a crash its gate.
 pub fn write_slot<D: Disk>(d: &mut D, slot: &[u8]) -> Result<(), DiskFault>
-    requires some { 1 ≤ length slot.now }
+    requires open { take 1 slot.now ≡ 1 ∷ [] }
+    requires short { length slot.now ≤ 4096 }
     requires within { length slot.now ≤ (D.view d.old).size }
+    requires counts { (D.view d.old).calls < 2 ^ 64 }
     ensures ok { OnOk result ((D.view d.new).bytes ≡ option_map (λ bytes. replaced (replaced bytes 1 (drop 1 slot.now)) 0 (take 1 slot.now)) (D.view d.old).bytes) }
-    ensures only { OnOk result ((image : List ℕ) → (D.view d.new).may_leave (D.view d.new).calls image ≡ true → (D.view d.new).bytes ≡ Some image) }
+    ensures only { OnOk result (IsSettled (D.view d.new)) }
+    ensures moments { LeadsTo IsShut (λ image. IsShut image ⊎ (option_map (λ bytes. replaced (replaced bytes 1 (drop 1 slot.now)) 0 (take 1 slot.now)) (D.view d.old).bytes ≡ Some image)) (D.view d.old) (D.view d.new) }
     ensures kept { GoesFurther (D.view d.old) (D.view d.new) }
     ensures cause { OnErr result (Rose (D.view d.old).faults (D.view d.new).faults) }
 {
@@ -111,7 +124,9 @@ fn write_blocks<D: Disk>(d: &mut D, blocks: &Blocks) -> Result<(), DiskFault>
     requires is_disk { IsDisk (D.view d.old) }
     requires size { (D.view d.old).size ≡ 8192 + 512 * length blocks.now }
     requires few { length blocks.now ≤ 4096 }
+    requires counts { (D.view d.old).calls < 2 ^ 64 }
     ensures ok { OnOk result (IfSome (D.view d.new).bytes (λ image. HoldsBlocks image blocks.now (length blocks.now))) }
+    ensures moments { LeadsTo HasNoLetters HasNoLetters (D.view d.old) (D.view d.new) }
     ensures kept { GoesFurther (D.view d.old) (D.view d.new) }
     ensures cause { OnErr result (Rose (D.view d.old).faults (D.view d.new).faults) }
 {
@@ -126,10 +141,12 @@ fn write_image<D: Disk>(d: &mut D, slot: &[u8], blocks: &Blocks) -> Result<(), D
     requires is_disk { IsDisk (D.view d.old) }
     requires size { (D.view d.old).size ≡ 8192 + 512 * length blocks.now }
     requires few { length blocks.now ≤ 4096 }
-    requires some { 1 ≤ length slot.now }
+    requires open { take 1 slot.now ≡ 1 ∷ [] }
     requires short { length slot.now ≤ 4096 }
+    requires counts { (D.view d.old).calls < 2 ^ 64 }
     ensures ok { OnOk result (IfSome (D.view d.new).bytes (λ image. IsLaidOut slot.now blocks.now (D.view d.old).size image)) }
-    ensures only { OnOk result ((image : List ℕ) → (D.view d.new).may_leave (D.view d.new).calls image ≡ true → (D.view d.new).bytes ≡ Some image) }
+    ensures only { OnOk result (IsSettled (D.view d.new)) }
+    ensures moments { LeadsTo HasNoLetters (λ image. IsNoImage image ⊎ IsLaidOut slot.now blocks.now (D.view d.old).size image) (D.view d.old) (D.view d.new) }
     ensures kept { GoesFurther (D.view d.old) (D.view d.new) }
     ensures cause { OnErr result (Rose (D.view d.old).faults (D.view d.new).faults) }
 {
@@ -150,11 +167,15 @@ pub fn make_on<D: Disk>(
     ensures made { OnOk result (IsMade (first_super sizes.now) blocks.now (D.view d.new)) }
     ensures told { IfOk result (λ told. super_told told ≡ first_super sizes.now) }
     ensures same_sizes { IfOk result (λ told. told.sizes ≡ sizes.now) }
-    ensures size { (D.view d.new).size ≡ (D.view d.old).size }
+    ensures continues { Continues (D.view d.old) (D.view d.new) }
+    ensures moments { MakesOnly (first_super sizes.now) blocks.now (D.view d.old) (D.view d.new) }
     ensures cause { IfErr result (IsFailure (D.view d.old) (D.view d.new)) }
 {
     let len = d.len();
     prove!(len == home_len(sizes));
+    // The count of calls fits its type, so it doesn't fall.
+    let calls = d.calls();
+    prove!(calls <= u64::MAX);
     let Ok(slot) = first_slot(alloc, sizes) else {
         return Err(HomeFault::NoMemory);
     };

@@ -7,6 +7,7 @@ ghost use Rattle.zj_block.specs.Sizes.{IsInLimits, numbers_of, first_data};
 ghost use Rattle.zj_home.specs.Super.{u32_in, u64_in, counting, is_open, letters, numbers_in, numbers_fault, tail_in, tail_fault, tails_fault, slot_fault, head_fault, super_in, home_length, is_within, IsRefusal};
 
 use crate::fault::HomeFault;
+use byteorder::{ByteOrder, LittleEndian};
 use zj_block::{
     BLOCKS_PER_MAP_BLOCK, MAX_AREA, MAX_BLOCKS, MAX_CORES, MAX_NODES, MAX_RECORD_BLOCKS,
     MIN_BLOCKS, MIN_CORES, MIN_NODES, NODES_PER_BLOCK, Sizes, Tail, Tails, VERSION,
@@ -32,7 +33,7 @@ fn u32_at(bytes: &[u8], at: usize) -> u32
     requires { at + 4 ≤ length bytes.now }
     ensures { result ≡ u32_in bytes.now at }
 {
-    u32::from_le_bytes([bytes[at], bytes[at + 1], bytes[at + 2], bytes[at + 3]])
+    LittleEndian::read_u32(&bytes[at..])
 }
 
 /// The number of 64 bits whose lowest byte stands there.
@@ -40,16 +41,7 @@ fn u64_at(bytes: &[u8], at: usize) -> u64
     requires { at + 8 ≤ length bytes.now }
     ensures { result ≡ u64_in bytes.now at }
 {
-    u64::from_le_bytes([
-        bytes[at],
-        bytes[at + 1],
-        bytes[at + 2],
-        bytes[at + 3],
-        bytes[at + 4],
-        bytes[at + 5],
-        bytes[at + 6],
-        bytes[at + 7],
-    ])
+    LittleEndian::read_u64(&bytes[at..])
 }
 
 /// Where the slot that counts stands, if one is open.
