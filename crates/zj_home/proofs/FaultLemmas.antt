@@ -7,7 +7,8 @@ use Rattle.std.proofs.lemmas.Bool.Decides.{nat_tests}
 use Rattle.std.proofs.lemmas.List.{take-append-drop}
 use Rattle.std.proofs.lemmas.List.FromFn.{map-range_with_len_more, take-map-range_with_len}
 use Rattle.zj_block.specs.Sizes.{Numbers, IsInLimits}
-use Rattle.zj_home.specs.Super.{first_fault, numbers_fault}
+use Rattle.zj_block.specs.declared.numbers.Tail.{Tail}
+use Rattle.zj_home.specs.Super.{IsTail, first_fault, numbers_fault, tail_fault}
 use Rattle.zj_home.specs.declared.fault.HomeFault.{HomeFault}
 
 -- no fault, and then more
@@ -51,3 +52,7 @@ in_limits slot n h = record {
   least_area = grind (arith, common_steps, nat_tests);
   most_area = grind (arith, common_steps, nat_tests);
 }
+
+-- a tail with no fault is sound
+pub tail_sound : (slot core : ℕ) (n : Numbers) (tail : Tail) → tail_fault slot n core tail ≡ None → IsTail n tail
+tail_sound slot core n tail h = (grind (arith, common_steps, nat_tests), grind (arith, common_steps, nat_tests))

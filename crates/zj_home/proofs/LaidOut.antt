@@ -15,7 +15,9 @@ use Rattle.zj_block.specs.declared.numbers.Tail.{Tail}
 use Rattle.zj_home.specs.declared.fault.HomeFault.{HomeFault}
 use Rattle.zj_home.specs.declared.fault.HomeFault.TheVariants.{NotAnImage, Sizes}
 use Rattle.zj_home.proofs.FieldReads.{part}
-use Rattle.zj_home.specs.Super.{numbers_fault, tails_fault, tail_in, u64_in, unless, Super, first_fault, head_of, head_fault, letters, numbers_in, slot_fault, super_in, home_length}
+use Rattle.std.specs.Prelude.{All}
+use Rattle.std.proofs.lemmas.List.Elements.{All-replicate, All-same}
+use Rattle.zj_home.specs.Super.{IsTail, numbers_fault, tails_fault, tail_in, u64_in, unless, Super, first_fault, head_of, head_fault, letters, numbers_in, slot_fault, super_in, home_length}
 use Rattle.zj_home.specs.Made.{HoldsBlocks, IsHome, IsLaidOut, IsMade, first_slot, first_super}
 use Rattle.zj_home.proofs.ImageLemmas.{fault_by_head, super_by_head, told_length, if_some}
 use Rattle.zj_home.proofs.MadeLemmas.{epoch_at, first_counts, no_number_fault, no_tail_fault, numbers_at, tails_at}
@@ -140,3 +142,9 @@ made_from disk n blocks slot size same long is laid only =
     made_by disk n blocks is
     (subst (λ (z : ℕ). IfSome disk.bytes (λ image. IsLaidOut (first_slot n) blocks z image)) long
     (subst (λ (s : List ℕ). IfSome disk.bytes (λ image. IsLaidOut s blocks size image)) same laid)) only
+
+-- the first tails are sound
+pub zeros_sound : (n : Numbers) (tails : List Tail) → tails ≡ zero_tails → IsInLimits n → All (IsTail n) (take n.cores tails)
+zeros_sound n tails zero is =
+    All-same (IsTail n) (take n.cores tails) (replicate n.cores zero_tail) (ap (take n.cores) zero ∙ zeros_taken n.cores is.most_cores)
+    (All-replicate (IsTail n) n.cores zero_tail (omega (arith, is.least_area), omega arith))

@@ -1,5 +1,5 @@
 -- What the first bytes of a home tell: its super, which stands in one of two slots, and why it is refused.
-use Rattle.std.specs.Prelude.{ℕ, ◌+◌, ◌*◌, ◌%◌, ◌^◌, ◌==◌, ◌&&◌, Bool, true, false, List, [], ◌∷◌, length, codes, nat_eq, map, drop, nat_lt, nat_le, if◌then◌else◌, Option, Some, None, ⊤, slice_index}
+use Rattle.std.specs.Prelude.{ℕ, ◌<◌, ◌≤◌, ◌+◌, ◌*◌, ◌%◌, ◌^◌, ◌==◌, ◌&&◌, Bool, true, false, List, [], ◌∷◌, length, codes, nat_eq, map, drop, nat_lt, nat_le, if◌then◌else◌, Option, Some, None, ⊤, slice_index}
 use Rattle.std.specs.List.{range_with_len, slice_range, starts_with}
 use Rattle.std.specs.Option.{option_map}
 use Rattle.std.specs.Int.{w32, w64, from_le_bytes}
@@ -103,6 +103,10 @@ abbrev pub tail_fault : ℕ → Numbers → ℕ → Tail → Option HomeFault
 tail_fault slot n core tail = first_fault (
     unless (nat_le (tail.place + max_record n) n.area) (faults.NotAnImage (slot + 40 + 16 * core)) ∷
     unless (nat_lt tail.number (2 ^ 62)) (faults.NotAnImage (slot + 48 + 16 * core)) ∷ [])
+
+-- a tail leaves room for a longest record, and its number is not too great
+abbrev pub IsTail : Numbers → Tail → Type 0
+IsTail n tail = (tail.place + max_record n ≤ n.area) × (tail.number < 2 ^ 62)
 
 -- the first tail's
 abbrev pub tails_fault : List ℕ → ℕ → Numbers → ℕ → Option HomeFault

@@ -1,13 +1,13 @@
 //! The home device: opening it, and reading its super and its blocks.
 
-ghost use Rattle.std.specs.Prelude.{◌≡◌, ◌+◌, ◌<◌, None, Some, IfOk, IfErr, OnOk, OnErr, IfSome, length, slice_get, vec_len};
+ghost use Rattle.std.specs.Prelude.{◌≡◌, ◌+◌, ◌<◌, None, Some, IfOk, IfErr, OnOk, OnErr, IfSome, All, length, slice_get, take, vec_len};
 ghost use Rattle.zj_block.specs.Block.{IsContent, bytes_of};
 ghost use Rattle.zj_dev.specs.Fault.{Rose};
 ghost use Rattle.zj_dev.specs.Disk.{LeavesAll, Continues, OnlyReads};
 ghost use Rattle.zj_home.specs.Home.{IsCause};
 ghost use Rattle.zj_home.specs.Made.{IsMade, IsFailure, MakesOnly, first_super};
 ghost use Rattle.zj_home.specs.Told.{super_told};
-ghost use Rattle.zj_home.specs.Super.{image_fault, super_of, home_length, block_bytes_in};
+ghost use Rattle.zj_home.specs.Super.{IsTail, image_fault, super_of, home_length, block_bytes_in};
 
 use crate::fault::{DiskFault, HomeFault, HomeRefused};
 use crate::make::make_on;
@@ -25,16 +25,16 @@ pub struct Home<D: Disk> {
 }
 
 impl<D: Disk> Model for Home<D> {
-    ghost use Rattle.std.specs.Prelude.{◌≡◌};
+    ghost use Rattle.std.specs.Prelude.{◌≡◌, All, take};
     ghost use Rattle.zj_home.specs.Home.{HomeView};
-    ghost use Rattle.zj_home.specs.Super.{home_length};
+    ghost use Rattle.zj_home.specs.Super.{IsTail, home_length};
     ghost use Rattle.zj_home.specs.Told.{super_told};
 
     ghost Value = { HomeView D };
 
     ghost view = { λ h. record { device = h.device; told = super_told h.told } };
 
-    ghost invariant = { λ h. (D.view h.device).size ≡ home_length h.told.sizes };
+    ghost invariant = { λ h. ((D.view h.device).size ≡ home_length h.told.sizes) × All (IsTail h.told.sizes) (take h.told.sizes.cores h.told.tails) };
 }
 
 /// That many zeros.
@@ -48,6 +48,7 @@ fn zeros(alloc: Global, count: usize) -> Result<Vec<u8>, AllocError>
 fn read_told<D: Disk>(alloc: Global, d: &mut D) -> Result<Told, HomeFault>
     ensures told { IfOk result (λ told. IfSome (D.view d.old).bytes (λ image. (image_fault image ≡ None) × (super_of image ≡ Some (super_told told)))) }
     ensures size { IfOk result (λ told. (D.view d.old).size ≡ home_length told.sizes) }
+    ensures sound { IfOk result (λ told. All (IsTail told.sizes) (take told.sizes.cores told.tails)) }
     ensures left { OnlyReads (D.view d.old) (D.view d.new) }
     ensures cause { IfErr result (IsCause (D.view d.old) (D.view d.new)) }
 {
@@ -130,10 +131,12 @@ impl<D: Disk> Home<D> {
         self.told.epoch
     }
 
-    /// Where the journal of a core begins: `None` exactly from the image's count of cores on.
+    /// Where the journal of a core begins: `None` exactly from the image's count of cores on. A longest record
+    /// has room behind each tail, and its number is below 2^62.
     pub fn tail(&self, core: u32) -> Option<Tail>
         ensures tail { result ≡ slice_get self.now.told.tails core }
         ensures many { length self.now.told.tails ≡ self.now.told.sizes.cores }
+        ensures sound { IfSome result (IsTail self.now.told.sizes) }
     {
         let cores = self.told.sizes.cores();
         let tail = self.told.tails.at(core);

@@ -1,10 +1,10 @@
 //! Making a home, call by call.
 
-ghost use Rattle.std.specs.Prelude.{◌≡◌, ℕ, ◌+◌, ◌*◌, ◌^◌, ◌<◌, ◌≤◌, ◌⊎◌, [], ◌∷◌, ◌++◌, true, Some, IfOk, OnOk, OnErr, IfErr, IfSome, length, take, drop, List, option_map};
+ghost use Rattle.std.specs.Prelude.{◌≡◌, ℕ, ◌+◌, ◌*◌, ◌^◌, ◌<◌, ◌≤◌, ◌⊎◌, [], ◌∷◌, ◌++◌, true, Some, IfOk, OnOk, OnErr, IfErr, IfSome, All, length, take, drop, List, option_map};
 ghost use Rattle.zj_block.specs.Block.{bytes_of};
 ghost use Rattle.zj_dev.specs.Fault.{Rose};
 ghost use Rattle.zj_dev.specs.Disk.{IsDisk, Continues, EachImageSince, IsSettled, replaced};
-ghost use Rattle.zj_home.specs.Super.{home_length};
+ghost use Rattle.zj_home.specs.Super.{IsTail, home_length};
 ghost use Rattle.zj_home.specs.Told.{super_told};
 ghost use Rattle.zj_home.specs.Made.{GoesFurther, HasNoLetters, HoldsBlocks, IsFailure, IsLaidOut, IsMade, IsNoImage, IsShut, LeadsTo, MakesOnly, TearsSince, first_slot as slot_of, first_super};
 
@@ -167,6 +167,7 @@ pub fn make_on<D: Disk>(
     ensures made { OnOk result (IsMade (first_super sizes.now) blocks.now (D.view d.new)) }
     ensures told { IfOk result (λ told. super_told told ≡ first_super sizes.now) }
     ensures same_sizes { IfOk result (λ told. told.sizes ≡ sizes.now) }
+    ensures sound { IfOk result (λ told. All (IsTail told.sizes) (take told.sizes.cores told.tails)) }
     ensures continues { Continues (D.view d.old) (D.view d.new) }
     ensures moments { MakesOnly (first_super sizes.now) blocks.now (D.view d.old) (D.view d.new) }
     ensures cause { IfErr result (IsFailure (D.view d.old) (D.view d.new)) }

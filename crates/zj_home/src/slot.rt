@@ -1,10 +1,10 @@
 //! The slots of a home: what their bytes tell, and which of them counts.
 
-ghost use Rattle.std.specs.Prelude.{◌≡◌, ◌+◌, ◌*◌, ◌^◌, ◌<◌, ◌≤◌, ◌==◌, ◌&&◌, nat_lt, length, None, Some, drop, take, map, nat_eq, IfOk, IfErr, IfSome, OnOk, option_map};
+ghost use Rattle.std.specs.Prelude.{◌≡◌, ◌+◌, ◌*◌, ◌^◌, ◌<◌, ◌≤◌, ◌==◌, ◌&&◌, nat_lt, All, length, None, Some, drop, take, map, nat_eq, IfOk, IfErr, IfSome, OnOk, option_map};
 ghost use Rattle.zj_home.specs.Told.{super_told};
 ghost use Rattle.std.specs.List.{range_with_len, starts_with};
 ghost use Rattle.zj_block.specs.Sizes.{IsInLimits, numbers_of, first_data};
-ghost use Rattle.zj_home.specs.Super.{u32_in, u64_in, counting, is_open, letters, numbers_in, numbers_fault, tail_in, tail_fault, tails_fault, slot_fault, head_fault, super_in, home_length, is_within, IsRefusal};
+ghost use Rattle.zj_home.specs.Super.{u32_in, u64_in, counting, is_open, letters, numbers_in, numbers_fault, tail_in, tail_fault, tails_fault, slot_fault, head_fault, super_in, home_length, is_within, IsRefusal, IsTail};
 
 use crate::fault::HomeFault;
 use byteorder::{ByteOrder, LittleEndian};
@@ -156,6 +156,7 @@ fn read_tails(head: &[u8], slot: usize, sizes: &Sizes) -> Result<Tails, HomeFaul
     requires slot { slot ≤ 4096 }
     ensures ok { IfOk result (λ tails. (tails_fault head.now slot sizes.now sizes.now.cores ≡ None) × (take sizes.now.cores tails ≡ map (λ core. tail_in head.now slot core) (range_with_len 0 sizes.now.cores))) }
     ensures err { IfErr result (λ fault. tails_fault head.now slot sizes.now sizes.now.cores ≡ Some fault) }
+    ensures sound { IfOk result (λ tails. All (IsTail sizes.now) (take sizes.now.cores tails)) }
     ensures refusal { IfErr result IsRefusal }
 {
     let mut tails = Tails::zero();
@@ -181,6 +182,7 @@ fn read_slot(head: &[u8], len: u64, slot: usize) -> Result<Told, HomeFault>
     ensures none { OnOk result (slot_fault head.now len slot ≡ None) }
     ensures told { IfOk result (λ told. super_told told ≡ super_in head.now slot) }
     ensures size { IfOk result (λ told. len ≡ home_length told.sizes) }
+    ensures sound { IfOk result (λ told. All (IsTail told.sizes) (take told.sizes.cores told.tails)) }
     ensures err { IfErr result (λ fault. slot_fault head.now len slot ≡ Some fault) }
     ensures refusal { IfErr result IsRefusal }
 {
@@ -220,6 +222,7 @@ pub fn read_super(head: &[u8], len: u64) -> Result<Told, HomeFault>
     ensures none { OnOk result (head_fault head.now len (counting head.now) ≡ None) }
     ensures told { IfOk result (λ told. option_map (λ slot. super_in head.now slot) (counting head.now) ≡ Some (super_told told)) }
     ensures size { IfOk result (λ told. len ≡ home_length told.sizes) }
+    ensures sound { IfOk result (λ told. All (IsTail told.sizes) (take told.sizes.cores told.tails)) }
     ensures err { IfErr result (λ fault. head_fault head.now len (counting head.now) ≡ Some fault) }
     ensures refusal { IfErr result IsRefusal }
 {

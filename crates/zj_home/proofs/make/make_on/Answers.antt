@@ -1,6 +1,6 @@
 use Rattle.std.proofs.Common.{sym, ap, ◌∙◌, length, arith}
 use Rattle.zj_home.proofs.ImageLemmas.{on_ok}
-use Rattle.zj_home.proofs.LaidOut.{first_told, made_from}
+use Rattle.zj_home.proofs.LaidOut.{first_told, made_from, zeros_sound}
 use Rattle.zj_home.proofs.MadeLemmas.{length-first_slot}
 use Rattle.zj_home.proofs.MadeMoments.{makes_only, none_leads}
 use Rattle.zj_home.proofs.Moments.{leads_none}
@@ -38,3 +38,6 @@ returns-clause-moments g c =
     let first = g.D.Disk.view c.args.d.now in
     makes_only first (g.D.Disk.view c.write_image.new.d) c.args.sizes.now c.args.blocks.now c.deref.result.now first.size (c.deref.ensures.value ∙ c.in-Ok.ensures) c.requires.size c.home_len.ensures.limits
     c.write_image.ensures.moments
+
+pub returns-clause-sound : goal.returns-clause-sound
+returns-clause-sound g c = zeros_sound c.args.sizes.now c.zero.result c.zero.ensures.zero c.home_len.ensures.limits

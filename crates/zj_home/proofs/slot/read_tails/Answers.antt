@@ -1,9 +1,10 @@
 use Rattle.std.proofs.Common.{◌≡◌, ℕ, ◌+◌, ◌<◌, List, length, set, take, Some, None, [], ◌∷◌, ◌++◌, sym, ap, ◌∙◌, arith}
 use Rattle.std.proofs.lemmas.List.{take_more_set, length-set}
+use Rattle.std.proofs.lemmas.List.Elements.{All-push, All-same}
 use Rattle.std.proofs.lemmas.List.FromFn.{map-range_with_len_more}
 use Rattle.zj_block.specs.declared.numbers.Tail.{Tail}
-use Rattle.zj_home.specs.Super.{tail_in, tail_fault}
-use Rattle.zj_home.proofs.FaultLemmas.{none_more, some_first}
+use Rattle.zj_home.specs.Super.{IsTail, tail_in, tail_fault}
+use Rattle.zj_home.proofs.FaultLemmas.{none_more, some_first, tail_sound}
 use Rattle.zj_home.proofs.slot.read_tails.Goals as goal
 
 pub returns-in-Some-clause-err : goal.returns-in-Some-clause-err
@@ -24,5 +25,8 @@ loop-core-preserved c =
     record {
       none = none_more f n c.loop-core.invariant.none here;
       read = ap (take (n + 1)) is ∙ take_more_set c.loop-core.tails n (tail_in head slot n) below ∙ ap (λ (ts : List Tail). ts ++ tail_in head slot n ∷ []) c.loop-core.invariant.read ∙ sym (map-range_with_len_more (λ (core : ℕ). tail_in head slot core) 0 n n (omega arith));
+      sound = All-same (IsTail c.args.sizes.now) (take (n + 1) c.put.new.self) (take n c.loop-core.tails ++ tail_in head slot n ∷ [])
+          (ap (take (n + 1)) is ∙ take_more_set c.loop-core.tails n (tail_in head slot n) below)
+          (All-push (IsTail c.args.sizes.now) (take n c.loop-core.tails) (tail_in head slot n) c.loop-core.invariant.sound (tail_sound slot n c.args.sizes.now (tail_in head slot n) here));
       many = ap length is ∙ length-set c.loop-core.tails n (tail_in head slot n) ∙ c.loop-core.invariant.many;
     }
