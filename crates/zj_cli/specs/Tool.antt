@@ -17,6 +17,8 @@ abbrev pub code_of_fault : Option Fault → ℕ
 code_of_fault None = 0
 code_of_fault (Some faults.Words) = 1
 code_of_fault (Some (faults.Script kind line column)) = 2
+code_of_fault (Some (faults.Image fault)) = 3
+code_of_fault (Some (faults.Device device)) = 4
 code_of_fault (Some faults.Memory) = 5
 code_of_fault (Some faults.Input) = 6
 code_of_fault (Some faults.Output) = 7

@@ -6,11 +6,12 @@ mod answer;
 pub mod laws;
 mod play;
 mod script;
+mod set;
 mod status;
 mod stream;
 mod tool;
 
-pub use status::{Fault, Status};
+pub use status::{Fault, ImageFault, Status};
 pub use tool::zj_tool;
 
 #[cfg(test)]

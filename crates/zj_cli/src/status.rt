@@ -4,6 +4,40 @@ ghost use Rattle.std.specs.Prelude.{◌≡◌, option_copied};
 
 use std::alloc::{AllocError, AllocFailed};
 use thiserror::Error;
+use zj_dev::Device;
+
+/// Why an image is refused.
+#[derive(Clone, Copy, Debug, PartialEq, Eq, Error)]
+pub enum ImageFault {
+    /// No such device is at hand.
+    #[error("absent {device}")]
+    Absent { device: Device },
+    /// Home is no home: the first byte that tells it is the one at this place.
+    #[error("notanimage at {at}")]
+    NotAnImage { at: u64 },
+    /// Home is of another version of the format.
+    #[error("version found {found}")]
+    Version { found: u32 },
+    /// The device has another length, in bytes, than the image says.
+    #[error("sizes {device} found {found} expected {expected}")]
+    Sizes {
+        device: Device,
+        found: u64,
+        expected: u64,
+    },
+    /// A gate of the journal is open, and no record stands behind it that is due there. It tells where a
+    /// number stands that is not as expected, in bytes from the start of the device.
+    #[error("damaged {device} at {at} found {found} expected {expected}")]
+    Damaged {
+        device: Device,
+        at: u64,
+        found: u64,
+        expected: u64,
+    },
+    /// The image has that device, and more than one core can't be checked yet.
+    #[error("unbuilt {device}")]
+    Unbuilt { device: Device },
+}
 
 /// Why a call of the tool ended before all was done.
 #[derive(Clone, Copy, Debug, PartialEq, Eq, Error)]
@@ -15,6 +49,12 @@ pub enum Fault {
     /// three are 0.
     #[error("script line {line} column {column} kind {kind}")]
     Script { kind: u32, line: u32, column: u32 },
+    /// The image is refused.
+    #[error("image {0}")]
+    Image(ImageFault),
+    /// The device failed, or its shelf did.
+    #[error("device {device}")]
+    Device { device: Device },
     /// There was no memory.
     #[error("memory")]
     Memory,
@@ -70,6 +110,8 @@ impl Status {
             None => 0,
             Some(Fault::Words) => 1,
             Some(Fault::Script { .. }) => 2,
+            Some(Fault::Image(_)) => 3,
+            Some(Fault::Device { .. }) => 4,
             Some(Fault::Memory) => 5,
             Some(Fault::Input) => 6,
             Some(Fault::Output) => 7,
