@@ -11,6 +11,7 @@ use Rattle.zj_home.specs.Super.{Super, image_fault, super_of}
 use Rattle.zj_home.specs.declared.fault.HomeFault.{HomeFault}
 use Rattle.zj_home.specs.declared.fault.HomeFault.TheVariants as homes
 use Rattle.zj_tx.specs.Record.{Record}
+use Rattle.zj_area.specs.Journal.{AreaView, opened}
 use Rattle.zj_area.specs.Ring.{Holds, IsDamaged}
 use Rattle.zj_cli.specs.declared.status.ImageFault.{ImageFault}
 use Rattle.zj_cli.specs.declared.status.ImageFault.TheVariants as images
@@ -141,3 +142,7 @@ fault_of_home (homes.NotAnImage at) = faults.Image (images.NotAnImage at)
 fault_of_home (homes.Version found) = faults.Image (images.Version found)
 fault_of_home (homes.Sizes found expected) = faults.Image (images.Sizes devices.Home found expected)
 fault_of_home homes.NoMemory = faults.Memory
+
+-- an area that was just opened for a core of an image
+abbrev pub IsOpened : {D : Type 0} → Super → ℕ → AreaView D → Type 0
+IsOpened super core area = IfSome (slice_get super.tails core) (λ tail. area ≡ opened area.device super.sizes core tail)

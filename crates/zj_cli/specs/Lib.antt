@@ -5,3 +5,5 @@ pub mod Tool
 pub mod Laws
 pub mod Set
 pub mod Check
+pub mod Opening
+pub mod Scanning

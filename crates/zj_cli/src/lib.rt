@@ -5,6 +5,7 @@
 mod answer;
 pub mod laws;
 mod play;
+mod scan;
 mod script;
 mod set;
 mod status;

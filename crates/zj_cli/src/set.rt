@@ -1,14 +1,14 @@
 //! The devices of an image: taken out of their shelf in order, and put back.
 
-ghost use Rattle.std.specs.Prelude.{◌≡◌, ◌<◌, ◌≤◌, ◌^◌, None, Some, IfOk, IfErr, OnOk, OnErr, ◌⊎◌, MatchOption, slice_get, string_bytes, length};
+ghost use Rattle.std.specs.Prelude.{◌≡◌, ◌<◌, ◌≤◌, ◌^◌, [], None, Some, IfOk, IfErr, OnOk, OnErr, ◌⊎◌, MatchOption, slice_get, string_bytes, length};
 ghost use Rattle.zj_dev.specs.declared.device.Device.TheVariants as devices;
 ghost use Rattle.zj_dev.specs.Device.{device_name};
 ghost use Rattle.zj_dev.specs.Fault.{Rose};
 ghost use Rattle.zj_dev.specs.Shelf.{Names, OthersStay};
-ghost use Rattle.zj_area.specs.Journal.{opened};
-ghost use Rattle.zj_cli.specs.Check.{HasHome, IsJournalCause, IsMissing, IsOpenCause, OfLength, fault_of_home};
+ghost use Rattle.zj_cli.specs.Check.{HasHome, IsJournalCause, IsMissing, IsOpenCause, IsOpened, OfLength, fault_of_home};
 ghost use Rattle.zj_cli.specs.declared.status.Fault.TheVariants as faults;
 ghost use Rattle.zj_cli.specs.declared.status.ImageFault.TheVariants as images;
+ghost use Rattle.zj_cli.specs.Opening.{AreOpened, IsJournalsCause, SomeOut};
 ghost use Rattle.zj_cli.specs.Set.{IsBack, IsLent, IsTaken, home_name, journal_name};
 
 use crate::status::{Fault, ImageFault};
@@ -89,4 +89,68 @@ fn open_home<H: Shelf>(alloc: Global, shelf: &mut H) -> Result<Home<H::D>, Fault
             Err(home_fault(refused.fault))
         }
     }
+}
+
+/// Takes the journal of a core out of its shelf, if it is as long as the image says.
+fn open_journal<H: Shelf>(
+    alloc: Global,
+    shelf: &mut H,
+    home: &Home<H::D>,
+    core: u32,
+) -> Result<Area<H::D>, Fault>
+    requires { core < home.now.told.sizes.cores }
+    ensures lent { IfOk result (λ area. IsLent (H.names shelf.old (journal_name core)) (H.names shelf.new (journal_name core)) (H.D.view area.device)) }
+    ensures area { IfOk result (IsOpened home.now.told core) }
+    ensures length { OnOk result (OfLength (H.names shelf.old (journal_name core)) (λ len. len ≡ home.now.told.sizes.area)) }
+    ensures back { OnErr result (IsBack (H.names shelf.old (journal_name core)) (H.names shelf.new (journal_name core))) }
+    ensures others { OthersStay (journal_name core) (H.names shelf.old) (H.names shelf.new) }
+    ensures cause { IfErr result (IsJournalCause (H.names shelf.old (journal_name core)) (H.faults shelf.old) (H.faults shelf.new) home.now.told core) }
+    ensures no_fewer { H.faults shelf.old ≤ H.faults shelf.new }
+{
+    let device = Device::Journal(core);
+    let cores = home.sizes().cores();
+    prove!(core < cores);
+    let name = journal_name(core);
+    let d = take_out(shelf, device, name)?;
+    let found = d.len();
+    let expected = home.sizes().area();
+    if found != expected {
+        let _ = shelf.close(name, d);
+        return Err(Fault::Image(ImageFault::Sizes {
+            device,
+            found,
+            expected,
+        }));
+    }
+    let tail = home.tail(core).unwrap();
+    match Area::open(alloc, d, core, home.sizes(), tail) {
+        Ok(area) => Ok(area),
+        Err(returned) => {
+            let _ = shelf.close(name, returned.device);
+            Err(Fault::Memory)
+        }
+    }
+}
+
+/// Takes the journals of an image out of their shelf, in the order of the cores. After a fault those that
+/// were taken are in `areas`.
+fn open_journals<H: Shelf>(
+    alloc: Global,
+    shelf: &mut H,
+    home: &Home<H::D>,
+    areas: &mut Vec<Area<H::D>>,
+) -> Result<(), Fault>
+    requires { areas.old.items ≡ [] }
+    ensures opened { OnOk result (AreOpened H.D.view (H.names shelf.old) (H.names shelf.new) home.now.told home.now.told.sizes.cores areas.new.items) }
+    ensures left { OnErr result (SomeOut H.D.view (H.names shelf.old) (H.names shelf.new) areas.new.items) }
+    ensures few { length areas.new.items ≤ 8 }
+    ensures cause { IfErr result (IsJournalsCause (H.names shelf.old) (H.faults shelf.old) (H.faults shelf.new) home.now.told) }
+    ensures no_fewer { H.faults shelf.old ≤ H.faults shelf.new }
+{
+    for core in 0..home.sizes().cores() {
+        areas.reserve(1)?;
+        let area = open_journal(alloc, shelf, home, core)?;
+        areas.push(area).unwrap();
+    }
+    Ok(())
 }

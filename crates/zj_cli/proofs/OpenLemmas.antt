@@ -1,0 +1,126 @@
+-- One journal after the other is taken out.
+use Rattle.std.proofs.Common.{◌≡◌, ◌≢◌, ◌⊎◌, ℕ, zero, suc, ◌+◌, ◌-◌, ◌^◌, ◌<◌, ◌≤◌, List, [], ◌∷◌, ◌++◌, length, refl, sym, ap, subst, ◌∙◌, arith, inl, inr}
+use Rattle.std.specs.Prelude.{Option, Some, None, IfSome, MatchOption, slice_get}
+use Rattle.std.proofs.lemmas.Bool.{cases_eq, cases_lt}
+use Rattle.std.proofs.lemmas.Option.{slice_get_past}
+use Rattle.std.proofs.lemmas.List.{length_push}
+use Rattle.zj_dev.specs.Disk.{DiskView}
+use Rattle.zj_dev.specs.Shelf.{Names, OthersStay, Slot}
+use Rattle.zj_area.specs.Journal.{AreaView}
+use Rattle.zj_home.specs.Super.{Super}
+use Rattle.zj_cli.specs.declared.status.Fault.{Fault}
+use Rattle.zj_cli.specs.declared.status.Fault.TheVariants as faults
+use Rattle.zj_cli.specs.declared.status.ImageFault.TheVariants as images
+use Rattle.zj_cli.specs.Check.{HasJournals, IsJournalCause, IsOpened, OfLength}
+use Rattle.zj_cli.specs.Opening.{AreOpened, SomeOut}
+use Rattle.zj_cli.specs.Set.{IsBack, IsLent, IsNoJournal, journal_name}
+use Rattle.zj_cli.proofs.SetLemmas.{back_same, journals_differ, rose_since}
+
+-- ---- an element more
+
+pub push_before : {X : Type 0} (xs : List X) (x : X) (i : ℕ) → i < length xs → slice_get (xs ++ x ∷ []) i ≡ slice_get xs i
+push_before [] x i below = absurd (omega arith)
+push_before (y ∷ ys) x zero below = refl
+push_before (y ∷ ys) x (suc i) below = push_before ys x i (omega arith)
+
+pub push_at : {X : Type 0} (xs : List X) (x : X) → slice_get (xs ++ x ∷ []) (length xs) ≡ Some x
+push_at [] x = refl
+push_at (y ∷ ys) x = push_at ys x
+
+push_past : {X : Type 0} (xs : List X) (x : X) (i : ℕ) → length xs < i → slice_get (xs ++ x ∷ []) i ≡ None
+push_past xs x i past = slice_get_past (xs ++ x ∷ []) i (omega (arith, length_push xs x))
+
+-- what holds of a place, another way
+pub match_option : {X : Type 0} {P R : Type 0} {Q S : X → Type 0} (o : Option X) → (o ≡ None → P → R) → ((x : X) → o ≡ Some x → Q x → S x) → MatchOption o P Q → MatchOption o R S
+match_option None none some h = none refl h
+match_option (Some x) none some h = some x refl h
+
+module _ {D : Type 0} (view : D → DiskView) (before : Names) (super : Super) where
+  -- none yet
+  pub opened_none : AreOpened view before before super 0 []
+  opened_none = record { many = refl; lengths = λ core below. absurd (omega arith); journals = λ core small. refl; others = λ name none. refl }
+
+  -- one more
+  pub opened_more : (now new : Names) (count : ℕ) (areas : List (AreaView D)) (area : AreaView D) → count < 2 ^ 32 → AreOpened view before now super count areas → OthersStay (journal_name count) now new
+      → IsLent (now (journal_name count)) (new (journal_name count)) (view area.device) → IsOpened super count area → OfLength (now (journal_name count)) (λ len. len ≡ super.sizes.area)
+      → AreOpened view before new super (count + 1) (areas ++ area ∷ [])
+  opened_more now new count areas area small so_far stay lent opened long =
+      let here : now (journal_name count) ≡ before (journal_name count) = rw (slice_get_past areas count (omega (arith, so_far.many))) at (so_far.journals count small) in
+      record {
+        many = omega (arith, length_push areas area, so_far.many);
+        lengths = λ core below.
+            elim (cases_eq core count) [
+              | inl e ↦ subst (λ (k : ℕ). OfLength (before (journal_name k)) (λ len. len ≡ super.sizes.area)) (sym e) (subst (λ (s : Slot). OfLength s (λ len. len ≡ super.sizes.area)) here long)
+              | inr other ↦ so_far.lengths core (omega arith)
+            ];
+        journals = λ core fits. at_core core fits here;
+        others = λ name none. stay name (none count small) ∙ so_far.others name none;
+      }
+    where
+      at_core : (core : ℕ) → core < 2 ^ 32 → now (journal_name count) ≡ before (journal_name count) → MatchOption (slice_get (areas ++ area ∷ []) core) (new (journal_name core) ≡ before (journal_name core))
+          (λ a. IsLent (before (journal_name core)) (new (journal_name core)) (view a.device) × IsOpened super core a)
+      at_core core fits here =
+          elim (cases_eq core count) [
+            | inl e ↦
+                let at : slice_get (areas ++ area ∷ []) count ≡ Some area = ap (slice_get (areas ++ area ∷ [])) (sym so_far.many) ∙ push_at areas area in
+                let there : MatchOption (slice_get (areas ++ area ∷ []) count) (new (journal_name count) ≡ before (journal_name count)) (λ a. IsLent (before (journal_name count)) (new (journal_name count)) (view a.device) × IsOpened super count a) =
+                rw at (subst (λ (s : Slot). IsLent s (new (journal_name count)) (view area.device)) here lent, opened) in
+                subst (λ (k : ℕ). MatchOption (slice_get (areas ++ area ∷ []) k) (new (journal_name k) ≡ before (journal_name k)) (λ a. IsLent (before (journal_name k)) (new (journal_name k)) (view a.device) × IsOpened super k a)) (sym e) there
+            | inr other ↦
+                let same : new (journal_name core) ≡ now (journal_name core) = stay (journal_name core) (journals_differ core count fits small other) in
+                let was : MatchOption (slice_get areas core) (new (journal_name core) ≡ before (journal_name core)) (λ a. IsLent (before (journal_name core)) (new (journal_name core)) (view a.device) × IsOpened super core a) =
+                subst (λ (s : Slot). MatchOption (slice_get areas core) (s ≡ before (journal_name core)) (λ a. IsLent (before (journal_name core)) s (view a.device) × IsOpened super core a)) (sym same) (so_far.journals core fits) in
+                elim (cases_lt core (length areas)) [
+                  | inl below ↦ rw (push_before areas area core below) was
+                  | inr past ↦
+                      let none : slice_get areas core ≡ None = slice_get_past areas core past in
+                      let was_none = rw none at was in
+                      rw (push_past areas area core (omega (arith, so_far.many))) was_none
+                ]
+          ]
+
+  -- a fault on the way
+  pub some_out : (now new : Names) (count : ℕ) (areas : List (AreaView D)) → count < 2 ^ 32 → AreOpened view before now super count areas → OthersStay (journal_name count) now new → IsBack (now (journal_name count)) (new (journal_name count)) → SomeOut view before new areas
+  some_out now new count areas small so_far stay back =
+      let here : now (journal_name count) ≡ before (journal_name count) = rw (slice_get_past areas count (omega (arith, so_far.many))) at (so_far.journals count small) in
+      record {
+        journals = λ core fits.
+            elim (cases_eq core count) [
+              | inl e ↦
+                  let past : slice_get areas core ≡ None = slice_get_past areas core (omega (arith, so_far.many)) in
+                  let there : IsBack (before (journal_name core)) (new (journal_name core)) =
+                  subst (λ (k : ℕ). IsBack (before (journal_name k)) (new (journal_name k))) (sym e) (subst (λ (s : Slot). IsBack s (new (journal_name count))) here back) in
+                  rw past there
+              | inr other ↦
+                  let same : new (journal_name core) ≡ now (journal_name core) = stay (journal_name core) (journals_differ core count fits small other) in
+                  match_option (slice_get areas core) (λ e was. back_same (before (journal_name core)) (new (journal_name core)) (same ∙ was))
+                  (λ area e was. subst (λ (s : Slot). IsLent (before (journal_name core)) s (view area.device)) (sym same) was.0) (so_far.journals core fits)
+            ];
+        others = λ name none. stay name (none count small) ∙ so_far.others name none;
+      }
+
+  -- and where no call was made
+  pub some_out_now : (now : Names) (count : ℕ) (areas : List (AreaView D)) → AreOpened view before now super count areas → SomeOut view before now areas
+  some_out_now now count areas so_far = record {
+    journals = λ core fits. match_option (slice_get areas core) (λ e was. back_same (before (journal_name core)) (now (journal_name core)) was) (λ area e was. was.0) (so_far.journals core fits);
+    others = so_far.others;
+  }
+
+-- a fault since an earlier count
+pub journal_cause_since : (slot : Slot) (old mid new : ℕ) (super : Super) (core : ℕ) (fault : Fault) → old ≤ mid → IsJournalCause slot mid new super core fault → IsJournalCause slot old new super core fault
+journal_cause_since slot old mid new super core (faults.Image (images.Absent device)) le cause = cause
+journal_cause_since slot old mid new super core (faults.Image (images.Sizes device found expected)) le cause = cause
+journal_cause_since slot old mid new super core (faults.Image (images.NotAnImage at)) le cause = cause
+journal_cause_since slot old mid new super core (faults.Image (images.Version found)) le cause = cause
+journal_cause_since slot old mid new super core (faults.Image (images.Damaged device at found expected)) le cause = cause
+journal_cause_since slot old mid new super core (faults.Image (images.Unbuilt device)) le cause = cause
+journal_cause_since slot old mid new super core (faults.Device device) le cause = (cause.0, rose_since old mid new le cause.1)
+journal_cause_since slot old mid new super core faults.Memory le cause = cause
+journal_cause_since slot old mid new super core faults.Words le cause = cause
+journal_cause_since slot old mid new super core (faults.Script kind line column) le cause = cause
+journal_cause_since slot old mid new super core faults.Input le cause = cause
+journal_cause_since slot old mid new super core faults.Output le cause = cause
+
+-- what stands under the name that is next
+pub next_slot : {D : Type 0} (view : D → DiskView) (before now : Names) (super : Super) (count : ℕ) (areas : List (AreaView D)) → count < 2 ^ 32 → AreOpened view before now super count areas → now (journal_name count) ≡ before (journal_name count)
+next_slot view before now super count areas small so_far = rw (slice_get_past areas count (omega (arith, so_far.many))) at (so_far.journals count small)

@@ -1,0 +1,26 @@
+-- The journals of an image as they are taken out of their shelf, one after the other.
+use Rattle.std.specs.Prelude.{◌≡◌, ℕ, ◌^◌, ◌<◌, List, length, MatchOption, slice_get}
+use Rattle.zj_dev.specs.Disk.{DiskView}
+use Rattle.zj_dev.specs.Shelf.{Names}
+use Rattle.zj_area.specs.Journal.{AreaView}
+use Rattle.zj_home.specs.Super.{Super}
+use Rattle.zj_cli.specs.declared.status.Fault.{Fault}
+use Rattle.zj_cli.specs.Check.{HasJournals, IsJournalCause, IsOpened}
+use Rattle.zj_cli.specs.Set.{IsBack, IsLent, IsNoJournal, journal_name}
+
+-- The journals of the first cores, so many, were taken out and opened, and all else is as it was.
+pub record AreOpened {D : Type 0} (view : D → DiskView) (before now : Names) (super : Super) (count : ℕ) (areas : List (AreaView D)) : Type 0 where
+  pub many : length areas ≡ count
+  pub lengths : HasJournals before super count
+  pub journals : (core : ℕ) → core < 2 ^ 32 → MatchOption (slice_get areas core) (now (journal_name core) ≡ before (journal_name core))
+      (λ area. IsLent (before (journal_name core)) (now (journal_name core)) (view area.device) × IsOpened super core area)
+  pub others : (name : List ℕ) → IsNoJournal name → now name ≡ before name
+
+-- Some were taken out, and all else is back.
+pub record SomeOut {D : Type 0} (view : D → DiskView) (before now : Names) (areas : List (AreaView D)) : Type 0 where
+  pub journals : (core : ℕ) → core < 2 ^ 32 → MatchOption (slice_get areas core) (IsBack (before (journal_name core)) (now (journal_name core))) (λ area. IsLent (before (journal_name core)) (now (journal_name core)) (view area.device))
+  pub others : (name : List ℕ) → IsNoJournal name → now name ≡ before name
+
+-- why one of them was not opened: those before it were
+abbrev pub IsJournalsCause : Names → ℕ → ℕ → Super → Fault → Type 0
+IsJournalsCause before old new super fault = (core : ℕ) × (core < super.sizes.cores) × HasJournals before super core × IsJournalCause (before (journal_name core)) old new super core fault

@@ -1,0 +1,50 @@
+//! Reading the journals of an image.
+
+ghost use Rattle.std.specs.Prelude.{◌≡◌, ◌≤◌, [], IfOk, IfErr, OnOk, length};
+ghost use Rattle.zj_dev.specs.Disk.{OnlyReads};
+ghost use Rattle.zj_cli.specs.Scanning.{AreCounted, AreRead, HoldsSome, IsAreaCause, StopsAt};
+
+use crate::status::{Fault, ImageFault};
+use zj_area::{Area, ScanFault};
+use zj_dev::{Device, Disk};
+
+/// How many records the journal of a core holds.
+fn scan_one<D: Disk>(area: &mut Area<D>, core: u32) -> Result<usize, Fault>
+    ensures count { IfOk result (HoldsSome D.view area.old) }
+    ensures read { OnlyReads (D.view area.old.device) (D.view area.new.device) }
+    ensures cause { IfErr result (IsAreaCause D.view core area.old area.new) }
+{
+    let device = Device::Journal(core);
+    match area.scan() {
+        Ok(found) => Ok(found.len()),
+        Err(ScanFault::DiskFault) => Err(Fault::Device { device }),
+        Err(ScanFault::Damaged {
+            at,
+            found,
+            expected,
+        }) => Err(Fault::Image(ImageFault::Damaged {
+            device,
+            at,
+            found,
+            expected,
+        })),
+        Err(ScanFault::NoMemory) => Err(Fault::Memory),
+    }
+}
+
+/// How many records each journal holds, in the order of the cores. After a fault the counts are those of the
+/// journals before it.
+pub fn scan_all<D: Disk>(areas: &mut [Area<D>], counts: &mut Vec<usize>) -> Result<(), Fault>
+    requires few { length areas.old ≤ 8 }
+    requires none { counts.old.items ≡ [] }
+    ensures counted { OnOk result (AreCounted D.view areas.old counts.new.items (length areas.old)) }
+    ensures read { AreRead D.view areas.old areas.new }
+    ensures cause { IfErr result (StopsAt D.view areas.old areas.new counts.new.items) }
+{
+    for (core, area) in areas.iter_mut().enumerate() {
+        counts.reserve(1)?;
+        let count = scan_one(area, core as u32)?;
+        counts.push(count).unwrap();
+    }
+    Ok(())
+}
