@@ -3,6 +3,7 @@
 #![tactic(auto)]
 
 mod answer;
+mod close;
 pub mod laws;
 mod play;
 mod script;

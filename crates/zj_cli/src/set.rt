@@ -18,10 +18,10 @@ use zj_dev::{Device, Disk, Shelf};
 use zj_home::{Home, HomeFault};
 
 /// The name of the home device.
-const HOME: &str = "home";
+pub(crate) const HOME: &str = "home";
 
 /// The name of a core's journal.
-fn journal_name(core: u32) -> &'static str
+pub(crate) fn journal_name(core: u32) -> &'static str
     requires { core < 8 }
     ensures { result.now ≡ journal_name core }
 {
