@@ -5,3 +5,5 @@ pub mod LawLemmas
 pub mod SetLemmas
 pub mod OpenLemmas
 pub mod ScanLemmas
+pub mod CloseLemmas
+pub mod CheckLemmas

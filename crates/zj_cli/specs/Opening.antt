@@ -1,5 +1,5 @@
 -- The journals of an image as they are taken out of their shelf, one after the other.
-use Rattle.std.specs.Prelude.{◌≡◌, ℕ, ◌^◌, ◌<◌, List, length, MatchOption, slice_get}
+use Rattle.std.specs.Prelude.{◌≡◌, ℕ, ◌^◌, ◌<◌, ◌≤◌, List, length, IfSome, MatchOption, slice_get}
 use Rattle.zj_dev.specs.Disk.{DiskView}
 use Rattle.zj_dev.specs.Shelf.{Names}
 use Rattle.zj_area.specs.Journal.{AreaView}
@@ -24,3 +24,9 @@ pub record SomeOut {D : Type 0} (view : D → DiskView) (before now : Names) (ar
 -- why one of them was not opened: those before it were
 abbrev pub IsJournalsCause : Names → ℕ → ℕ → Super → Fault → Type 0
 IsJournalsCause before old new super fault = (core : ℕ) × (core < super.sizes.cores) × HasJournals before super core × IsJournalCause (before (journal_name core)) old new super core fault
+
+-- there is an area for each core, and each was just opened
+pub record AllOpened {D : Type 0} (super : Super) (areas : List (AreaView D)) : Type 0 where
+  pub many : length areas ≡ super.sizes.cores
+  pub few : length areas ≤ 8
+  pub opened : (core : ℕ) → core < 2 ^ 32 → IfSome (slice_get areas core) (IsOpened super core)

@@ -1,11 +1,13 @@
 -- The journals of an image as they are read, one after the other.
-use Rattle.std.specs.Prelude.{◌≡◌, ℕ, ◌<◌, List, length, Some, None, IfSome, IsSomeAnd, MatchOption, slice_get, ⊤}
+use Rattle.std.specs.Prelude.{◌≡◌, ◌⊎◌, ℕ, ◌<◌, List, length, Some, None, IfSome, IsSomeAnd, MatchOption, slice_get, ⊤}
 use Rattle.zj_dev.specs.Fault.{Rose}
 use Rattle.zj_dev.specs.Disk.{DiskView, OnlyReads}
 use Rattle.zj_dev.specs.declared.device.Device.TheVariants as devices
 use Rattle.zj_tx.specs.Record.{Record}
+use Rattle.zj_home.specs.Super.{Super}
 use Rattle.zj_area.specs.Journal.{AreaView}
 use Rattle.zj_area.specs.Ring.{Holds, IsDamaged}
+use Rattle.zj_cli.specs.Check.{journal_text}
 use Rattle.zj_cli.specs.declared.status.Fault.{Fault}
 use Rattle.zj_cli.specs.declared.status.Fault.TheVariants as faults
 use Rattle.zj_cli.specs.declared.status.ImageFault.TheVariants as images
@@ -46,3 +48,16 @@ pub record StopsAt {D : Type 0} (view : D → DiskView) (old new : List (AreaVie
   pub core : ℕ
   pub counted : AreCounted view old counts core
   pub here : IsSomeAnd (slice_get old core) (λ a. IsSomeAnd (slice_get new core) (λ b. IsAreaCause view core a b fault))
+
+-- the text of an image of one core, whose journal holds these records
+pub record Prints {D : Type 0} (view : D → DiskView) (super : Super) (areas : List (AreaView D)) (text : List ℕ) : Type 0 where
+  pub one_core : super.sizes.cores ≡ 1
+  pub records : List Record
+  pub holds : IsSomeAnd (slice_get areas 0) (λ a. AreaHolds view a records)
+  pub text_is : IfSome (slice_get super.tails 0) (λ tail. text ≡ journal_text 0 tail.number (length records) (length records))
+
+-- why the journals were not told of: one was not read, or there are more than one
+abbrev pub IsReadCause : {D : Type 0} → (D → DiskView) → Super → List (AreaView D) → List (AreaView D) → Fault → Type 0
+IsReadCause view super old new fault = ((counts : List ℕ) × StopsAt view old new counts fault)
+    ⊎ ((fault ≡ faults.Image (images.Unbuilt (devices.Journal 1))) × (1 < super.sizes.cores) × ((counts : List ℕ) × AreCounted view old counts (length old)))
+    ⊎ (fault ≡ faults.Memory)

@@ -3,6 +3,8 @@
 #![tactic(auto)]
 
 mod answer;
+mod check;
+mod close;
 pub mod laws;
 mod play;
 mod scan;

@@ -5,12 +5,13 @@ ghost use Rattle.zj_dev.specs.declared.device.Device.TheVariants as devices;
 ghost use Rattle.zj_dev.specs.Device.{device_name};
 ghost use Rattle.zj_dev.specs.Fault.{Rose};
 ghost use Rattle.zj_dev.specs.Shelf.{Names, OthersStay};
-ghost use Rattle.zj_cli.specs.Check.{HasHome, IsJournalCause, IsMissing, IsOpenCause, IsOpened, OfLength, fault_of_home};
+ghost use Rattle.zj_cli.specs.Check.{HasHome, HasJournals, IsJournalCause, IsMissing, IsOpenCause, IsOpened, OfLength, fault_of_home};
 ghost use Rattle.zj_cli.specs.declared.status.Fault.TheVariants as faults;
 ghost use Rattle.zj_cli.specs.declared.status.ImageFault.TheVariants as images;
-ghost use Rattle.zj_cli.specs.Opening.{AreOpened, IsJournalsCause, SomeOut};
-ghost use Rattle.zj_cli.specs.Set.{IsBack, IsLent, IsTaken, home_name, journal_name};
+ghost use Rattle.zj_cli.specs.Opening.{AllOpened, AreOpened, IsJournalsCause, SomeOut};
+ghost use Rattle.zj_cli.specs.Set.{AllBack, IsBack, IsLent, IsOut, IsTaken, home_name, journal_name};
 
+use crate::close::close_set;
 use crate::status::{Fault, ImageFault};
 use std::alloc::Global;
 use zj_area::Area;
@@ -18,10 +19,10 @@ use zj_dev::{Device, Disk, Shelf};
 use zj_home::{Home, HomeFault};
 
 /// The name of the home device.
-const HOME: &str = "home";
+pub(crate) const HOME: &str = "home";
 
 /// The name of a core's journal.
-fn journal_name(core: u32) -> &'static str
+pub(crate) fn journal_name(core: u32) -> &'static str
     requires { core < 8 }
     ensures { result.now ≡ journal_name core }
 {
@@ -153,4 +154,33 @@ fn open_journals<H: Shelf>(
         areas.push(area).unwrap();
     }
     Ok(())
+}
+
+/// The devices of an image, out of their shelf.
+#[derive(Debug)]
+pub(crate) struct Set<D: Disk> {
+    pub home: Home<D>,
+    pub areas: Vec<Area<D>>,
+}
+
+/// Takes the devices of an image out of their shelf: home first, and then the journals from core 0 on. The
+/// first that is missing, fails or is none of an image's is the fault, and then all are put back.
+pub(crate) fn open_set<H: Shelf>(alloc: Global, shelf: &mut H) -> Result<Set<H::D>, Fault>
+    ensures out { IfOk result (λ set. IsOut H.D.view (H.names shelf.old) (H.names shelf.new) (H.D.view set.home.device) set.areas.items) }
+    ensures home { IfOk result (λ set. HasHome (H.names shelf.old) set.home.told) }
+    ensures journals { IfOk result (λ set. HasJournals (H.names shelf.old) set.home.told set.home.told.sizes.cores) }
+    ensures opened { IfOk result (λ set. AllOpened set.home.told set.areas.items) }
+    ensures back { OnErr result (AllBack (H.names shelf.old) (H.names shelf.new)) }
+    ensures cause { IfErr result (IsOpenCause (H.names shelf.old) (H.names shelf.new) (H.faults shelf.old) (H.faults shelf.new)) }
+    ensures no_fewer { H.faults shelf.old ≤ H.faults shelf.new }
+{
+    let home = open_home(alloc, shelf)?;
+    let mut areas = Vec::new(alloc);
+    match open_journals(alloc, shelf, &home, &mut areas) {
+        Ok(()) => Ok(Set { home, areas }),
+        Err(fault) => {
+            let _ = close_set(shelf, home, areas);
+            Err(fault)
+        }
+    }
 }

@@ -1,0 +1,28 @@
+use Rattle.std.proofs.Common.{◌<◌, length, ◌∙◌, arith}
+use Rattle.std.specs.Vec.Iter.{into_iter_items}
+use Rattle.zj_cli.proofs.CloseLemmas.{at_drop, first_fault, more}
+use Rattle.zj_cli.proofs.close.close_areas.Goals as goal
+
+pub loop-area-preserved : goal.loop-area-preserved
+loop-area-preserved g c =
+    let at = c.loop-area in
+    let inv = c.loop-area.invariant in
+    let count = inv.count in
+    let few = inv.few in
+    let gone = c.in-Some.ensures.cases.1 in
+    let within : at.core < length c.args.areas.items = omega arith in
+    let small : at.core < 8 = omega arith in
+    let found = at_drop c.args.areas.items at.core c.in-Some.area (into_iter_items c.next.new.self) within (inv.items ∙ c.in-Some.ensures.cases.0) in
+    let put = c.put_back-one.ensures in
+    let now = more g.H.D.Disk.view c.args.areas.items at.core c.in-Some.area (g.H.Shelf.names c.args.shelf.now) (g.H.Shelf.names at.shelf) (g.H.Shelf.names c.put_back-one.new.shelf)
+    c.journal_name.result.now c.into_device.result small c.journal_name.ensures c.into_device.ensures found.0 inv.below inv.others put.closed put.others in
+    record {
+      few = few;
+      items = found.1;
+      count = omega arith;
+      below = now.0;
+      others = now.1;
+      cause = first_fault at.closed c.put_back-one.result c.and-closed.result _ (g.H.Shelf.faults c.args.shelf.now) (g.H.Shelf.faults at.shelf) (g.H.Shelf.faults c.put_back-one.new.shelf)
+          c.and-closed.ensures inv.cause inv.no_fewer put.no_fewer put.cause;
+      no_fewer = omega (arith, inv.no_fewer, put.no_fewer);
+    }

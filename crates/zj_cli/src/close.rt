@@ -1,0 +1,67 @@
+//! The devices of an image, put back into their shelf in order.
+
+ghost use Rattle.std.specs.Prelude.{◌≡◌, ◌≢◌, ℕ, List, ◌<◌, ◌≤◌, IfErr, IfSome, slice_get, length};
+ghost use Rattle.zj_dev.specs.Fault.{Rose};
+ghost use Rattle.zj_dev.specs.Shelf.{Names, OthersStay, Closes};
+ghost use Rattle.zj_dev.specs.declared.device.Device.{Device};
+ghost use Rattle.zj_cli.specs.declared.status.Fault.TheVariants as faults;
+ghost use Rattle.zj_cli.specs.Set.{IsClosed, IsOut, journal_name};
+
+use crate::set::{HOME, journal_name};
+use crate::status::Fault;
+use zj_area::Area;
+use zj_dev::{Device, Disk, Shelf};
+use zj_home::Home;
+
+/// Puts a device back into its shelf, under its name.
+fn put_back<H: Shelf>(shelf: &mut H, device: Device, name: &str, d: H::D) -> Result<(), Fault>
+    ensures closed { Closes (H.D.view d) (H.names shelf.old name.now) (H.names shelf.new name.now) }
+    ensures others { OthersStay name.now (H.names shelf.old) (H.names shelf.new) }
+    ensures cause { IfErr result (λ fault. (fault ≡ faults.Device device) × Rose (H.faults shelf.old) (H.faults shelf.new)) }
+    ensures no_fewer { H.faults shelf.old ≤ H.faults shelf.new }
+{
+    match shelf.close(name, d) {
+        Ok(()) => Ok(()),
+        Err(_) => Err(Fault::Device { device }),
+    }
+}
+
+/// Puts the devices of journals back under their names, from core 0 on.
+///
+/// The fault is of the first device that the shelf failed to close; all are back in any case.
+fn close_areas<H: Shelf>(shelf: &mut H, areas: Vec<Area<H::D>>) -> Result<(), Fault>
+    requires { length areas.items ≤ 8 }
+    ensures closed { (core : ℕ) → core < length areas.items → IfSome (slice_get areas.items core) (λ area. Closes (H.D.view area.device) (H.names shelf.old (journal_name core)) (H.names shelf.new (journal_name core))) }
+    ensures others { (name : List ℕ) → ((core : ℕ) → core < length areas.items → name ≢ journal_name core) → H.names shelf.new name ≡ H.names shelf.old name }
+    ensures cause { IfErr result (λ fault. (device : Device) × (fault ≡ faults.Device device) × Rose (H.faults shelf.old) (H.faults shelf.new)) }
+    ensures no_fewer { H.faults shelf.old ≤ H.faults shelf.new }
+{
+    let mut closed = Ok(());
+    let mut core = 0;
+    let mut left = areas.into_iter();
+    while let Some(area) = left.next() {
+        let device = Device::Journal(core);
+        let one = put_back(shelf, device, journal_name(core), area.into_device());
+        closed = closed.and(one);
+        core += 1;
+    }
+    left.destroy_empty();
+    closed
+}
+
+/// Puts the devices back under their names, home first and then the journals from core 0 on.
+///
+/// The fault is of the first device that the shelf failed to close; all are back in any case.
+pub(crate) fn close_set<H: Shelf>(
+    shelf: &mut H,
+    home: Home<H::D>,
+    areas: Vec<Area<H::D>>,
+) -> Result<(), Fault>
+    requires { length areas.items ≤ 8 }
+    ensures closed { (before : Names) → IsOut H.D.view before (H.names shelf.old) (H.D.view home.device) areas.items → IsClosed H.D.view before (H.names shelf.new) (H.D.view home.device) areas.items }
+    ensures cause { IfErr result (λ fault. (device : Device) × (fault ≡ faults.Device device) × Rose (H.faults shelf.old) (H.faults shelf.new)) }
+    ensures no_fewer { H.faults shelf.old ≤ H.faults shelf.new }
+{
+    let closed = put_back(shelf, Device::Home, HOME, home.into_device());
+    closed.and(close_areas(shelf, areas))
+}
