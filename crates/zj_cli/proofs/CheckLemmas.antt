@@ -8,18 +8,21 @@ use Rattle.zj_dev.specs.Shelf.{Names, OthersStay, Slot, Untold, Absent, Out, Sta
 use Rattle.zj_dev.specs.declared.device.Device.{Device}
 use Rattle.zj_dev.specs.declared.device.Device.TheVariants as devices
 use Rattle.zj_block.specs.declared.numbers.Tail.{Tail}
+use Rattle.zj_block.specs.Sizes.{Numbers}
 use Rattle.zj_home.specs.Super.{Super}
 use Rattle.zj_tx.specs.Record.{Record}
-use Rattle.zj_area.specs.Journal.{AreaView, opened}
+use Rattle.zj_area.specs.Journal.{AreaView, opened as just_opened}
+use Rattle.zj_area.specs.Ring.{Holds, IsDamaged}
 use Rattle.zj_cli.specs.declared.status.Fault.{Fault}
 use Rattle.zj_cli.specs.declared.status.Fault.TheVariants as faults
 use Rattle.zj_cli.specs.declared.status.ImageFault.{ImageFault}
 use Rattle.zj_cli.specs.declared.status.ImageFault.TheVariants as images
-use Rattle.zj_cli.specs.Check.{HasHome, HasJournals, IsImageCause, IsJournalCause, IsMissing, IsOpenCause, IsOpened, OfLength}
+use Rattle.zj_cli.specs.Check.{AllHold, Checks, HasHome, HasJournals, IsDeviceCause, IsImageCause, IsJournalCause, IsMissing, IsOpenCause, IsOpened, IsWhole, JournalHolds, OfDevice, OfJournal, OfLength, journal_text}
 use Rattle.zj_cli.specs.Opening.{AllOpened, AreOpened, IsJournalsCause, SomeOut}
-use Rattle.zj_cli.specs.Set.{AllBack, IsBack, IsClosed, IsLent, IsNoJournal, IsOut, home_name, journal_name}
+use Rattle.zj_cli.specs.Scanning.{AreCounted, AreaHolds, AreRead, HoldsSome, IsAreaCause, IsReadCause, Prints, StopsAt}
+use Rattle.zj_cli.specs.Set.{AllBack, IsBack, IsClosed, IsLent, IsNoJournal, IsOut, IsPutBack, home_name, journal_name}
 use Rattle.zj_cli.proofs.OpenLemmas.{match_option}
-use Rattle.zj_cli.proofs.SetLemmas.{back_same, home_differs, rose_since, rose_until}
+use Rattle.zj_cli.proofs.SetLemmas.{back_same, home_differs, reads_trans, rose_put, rose_since, rose_until}
 
 -- ---- opening
 
@@ -96,3 +99,145 @@ all_opened view before now super areas few opened = record {
   few = few;
   opened = λ core fits. match_option (slice_get areas core) (λ e was. tt) (λ area e was. was.1) (opened.journals core fits);
 }
+
+-- ---- reading
+
+-- what `check` prints of what was counted
+pub prints : {D : Type 0} (view : D → DiskView) (super : Super) (areas : List (AreaView D)) (counts : List ℕ) (tail : Tail) (found : ℕ) (text : List ℕ) → super.sizes.cores ≡ 1 → 0 < length areas → AreCounted view areas counts (length areas)
+    → slice_get counts 0 ≡ Some found → slice_get super.tails 0 ≡ Some tail → text ≡ journal_text 0 tail.number found found → Prints view super areas text
+prints view super areas counts tail found text one some counted first tail_is text_is =
+    let here = counted 0 some in
+    from (slice_get areas 0) refl (rw first at here)
+  where
+    from : (o : Option (AreaView _)) → slice_get areas 0 ≡ o → IsSomeAnd o (λ a. HoldsSome view a found) → Prints view super areas text
+    from None e h = absurd h
+    from (Some a) e h = record {
+      one_core = one;
+      records = h.0;
+      holds = rw e h.2;
+      text_is = rw (tail_is, h.1) text_is;
+    }
+
+-- ---- what was read, of what stands on the shelf
+
+-- what holds of a lent device holds of what stood there
+of_lent : (slot now : Slot) (d : DiskView) (P : List ℕ → Type 0) → IsLent slot now d → IfSome d.bytes P → OfDevice slot P
+of_lent Untold now d P lent holds = tt
+of_lent (Stands stood) now d P lent holds = subst (λ (o : Option (List ℕ)). IfSome o P) lent.1.bytes holds
+of_lent Absent now d P lent holds = absurd lent
+of_lent Out now d P lent holds = absurd lent
+
+-- its count of faults is no smaller
+lent_faults : (slot now : Slot) (d : DiskView) → IsLent slot now d → (stood : DiskView) → slot ≡ Stands stood → stood.faults ≤ d.faults
+lent_faults Untold now d lent stood e = cc
+lent_faults (Stands other) now d lent stood e = let same : other ≡ stood = cc in subst (λ (x : DiskView). x.faults ≤ d.faults) same lent.1.goes_on.no_fewer
+lent_faults Absent now d lent stood e = absurd lent
+lent_faults Out now d lent stood e = absurd lent
+
+lent_reads : (slot now : Slot) (d d' : DiskView) → IsLent slot now d → OnlyReads d d' → IsLent slot now d'
+lent_reads Untold now d d' lent reads = lent
+lent_reads (Stands stood) now d d' lent reads = (lent.0, reads_trans stood d d' lent.1 reads)
+lent_reads Absent now d d' lent reads = lent
+lent_reads Out now d d' lent reads = lent
+
+-- reading leaves all that is out
+pub out_read : {D : Type 0} (view : D → DiskView) (before now : Names) (home : DiskView) (old new : List (AreaView D)) → IsOut view before now home old → AreRead view old new → IsOut view before now home new
+out_read view before now home old new out read = record {
+  home_lent = out.home_lent;
+  journals = λ core fits. one (slice_get old core) (slice_get new core) core (out.journals core fits) (read core);
+  others = out.others;
+}
+  where
+    one : (o o' : Option (AreaView _)) (core : ℕ) → MatchOption o (IsBack (before (journal_name core)) (now (journal_name core))) (λ area. IsLent (before (journal_name core)) (now (journal_name core)) (view area.device))
+        → MatchOption o (o' ≡ None) (λ a. IsSomeAnd o' (λ b. OnlyReads (view a.device) (view b.device)))
+        → MatchOption o' (IsBack (before (journal_name core)) (now (journal_name core))) (λ area. IsLent (before (journal_name core)) (now (journal_name core)) (view area.device))
+    one None None core back same = back
+    one None (Some b) core back same = cc
+    one (Some a) None core lent reads = absurd reads
+    one (Some a) (Some b) core lent reads = lent_reads (before (journal_name core)) (now (journal_name core)) (view a.device) (view b.device) lent reads
+
+module _ {D : Type 0} (view : D → DiskView) (before mid now : Names) (home home' : DiskView) (old new : List (AreaView D)) (super : Super) (out : IsOut view before mid home old) (closed : IsClosed view before now home' new) (opened : AllOpened super old)
+    (has_home : HasHome before super) (has_journals : HasJournals before super super.sizes.cores) where
+  fits_at : (core : ℕ) (a : AreaView D) → slice_get old core ≡ Some a → (core < 2 ^ 32) × (core < super.sizes.cores)
+  fits_at core a here = let below = slice_get_within old core a here in (omega (arith, below, opened.few), omega (arith, below, opened.many))
+
+  -- what was read of an area was read of that core's journal
+  of_area : (P : Numbers → ℕ → List ℕ → Tail → Type 0) (core : ℕ) (a : AreaView D) → slice_get old core ≡ Some a → IfSome (view a.device).bytes (λ image. P a.sizes a.core image a.tail) → OfJournal before super core (λ image tail. P super.sizes core image tail)
+  of_area P core a here holds =
+      let fits = (fits_at core a here).0 in
+      let lent : IsLent (before (journal_name core)) (mid (journal_name core)) (view a.device) = rw here at (out.journals core fits) in
+      let is : IsOpened super core a = rw here at (opened.opened core fits) in
+      at_tail (slice_get super.tails core) is (of_lent (before (journal_name core)) (mid (journal_name core)) (view a.device) (λ image. P a.sizes a.core image a.tail) lent holds)
+    where
+      at_tail : (o : Option Tail) → IfSome o (λ tail. a ≡ just_opened a.device super.sizes core tail) → OfDevice (before (journal_name core)) (λ image. P a.sizes a.core image a.tail)
+          → IfSome o (λ tail. OfDevice (before (journal_name core)) (λ image. P super.sizes core image tail))
+      at_tail None is holds = tt
+      at_tail (Some tail) is holds = subst (λ (x : AreaView D). OfDevice (before (journal_name core)) (λ image. P x.sizes x.core image x.tail)) is holds
+
+  -- the journals before one hold records
+  all_hold : (counts : List ℕ) (count : ℕ) → AreCounted view old counts count → AllHold before super count
+  all_hold counts count counted core below = one (slice_get old core) (slice_get counts core) refl (counted core below)
+    where
+      one : (o : Option (AreaView D)) (n : Option ℕ) → slice_get old core ≡ o → IsSomeAnd o (λ a. IsSomeAnd n (HoldsSome view a)) → (records : List Record) × JournalHolds before super core records
+      one None n e h = absurd h
+      one (Some a) None e h = absurd h
+      one (Some a) (Some n) e h = (h.0, of_area (λ sizes core image tail. (end : Tail) × Holds sizes core image tail h.0 end) core a e h.2)
+
+  -- what was printed is the text of what stands there
+  pub checks : (text : List ℕ) → Prints view super old text → Checks before text
+  checks text printed = record {
+    super = super;
+    records = printed.records;
+    home = has_home;
+    one_core = printed.one_core;
+    journals = λ core below. has_journals core (omega (arith, printed.one_core));
+    holds = one (slice_get old 0) refl printed.holds;
+    text_is = printed.text_is;
+  }
+    where
+      one : (o : Option (AreaView D)) → slice_get old 0 ≡ o → IsSomeAnd o (λ a. AreaHolds view a printed.records) → JournalHolds before super 0 printed.records
+      one None e h = absurd h
+      one (Some a) e h = of_area (λ sizes core image tail. (end : Tail) × Holds sizes core image tail printed.records end) 0 a e h
+
+  -- and why nothing was is why the set is refused
+  pub read_cause : (f f' : ℕ) (fault : Fault) → IsReadCause view super old new fault → IsOpenCause before now f f' fault
+  read_cause f f' fault (inr (inr memory)) = subst (λ (x : Fault). IsOpenCause before now f f' x) (sym memory) tt
+  read_cause f f' fault (inr (inl many)) =
+      subst (λ (x : Fault). IsOpenCause before now f f' x) (sym many.0)
+      (refl, (super, record { home = has_home; journals = has_journals; hold = λ core below. all_hold many.2.0 (length old) many.2.1 core (omega (arith, opened.many)) }, many.1))
+  read_cause f f' fault (inl stops) = at (slice_get old stops.1.core) (slice_get new stops.1.core) refl refl stops.1.here
+    where
+      device_cause : (device : Device) (a b : AreaView D) → slice_get old stops.1.core ≡ Some a → slice_get new stops.1.core ≡ Some b → device ≡ devices.Journal stops.1.core → Rose (view a.device).faults (view b.device).faults → IsDeviceCause before now f f' device
+      device_cause device a b here there e rose =
+          let core = stops.1.core in
+          let fits = (fits_at core a here).0 in
+          let lent : IsLent (before (journal_name core)) (mid (journal_name core)) (view a.device) = rw here at (out.journals core fits) in
+          let put : IsPutBack (before (journal_name core)) (now (journal_name core)) (view b.device) = rw there at (closed.journals core fits) in
+          subst (λ (d : Device). IsDeviceCause before now f f' d) (sym e)
+          (inr (rose_put (before (journal_name core)) (now (journal_name core)) (view a.device) (view b.device) put (lent_faults (before (journal_name core)) (mid (journal_name core)) (view a.device) lent) rose))
+
+      damaged : (device : Device) (at found expected : ℕ) (a : AreaView D) → slice_get old stops.1.core ≡ Some a → device ≡ devices.Journal stops.1.core → IfSome (view a.device).bytes (λ image. IsDamaged a.sizes a.core image a.tail at found expected)
+          → IsImageCause before (images.Damaged device at found expected)
+      damaged device at found expected a here e is =
+          let core = stops.1.core in
+          subst (λ (d : Device). IsImageCause before (images.Damaged d at found expected)) (sym e)
+          (super, has_home, has_journals, (fits_at core a here).1, all_hold stops.0 core stops.1.counted, of_area (λ sizes core image tail. IsDamaged sizes core image tail at found expected) core a here is)
+
+      by_fault : (fault : Fault) (a b : AreaView D) → slice_get old stops.1.core ≡ Some a → slice_get new stops.1.core ≡ Some b → IsAreaCause view stops.1.core a b fault → IsOpenCause before now f f' fault
+      by_fault faults.Memory a b here there is = tt
+      by_fault (faults.Device device) a b here there is = device_cause device a b here there is.0 is.1
+      by_fault (faults.Image (images.Damaged device at found expected)) a b here there is = damaged device at found expected a here is.0 is.1
+      by_fault (faults.Image (images.Absent device)) a b here there is = absurd is
+      by_fault (faults.Image (images.NotAnImage at)) a b here there is = absurd is
+      by_fault (faults.Image (images.Version found)) a b here there is = absurd is
+      by_fault (faults.Image (images.Sizes device found expected)) a b here there is = absurd is
+      by_fault (faults.Image (images.Unbuilt device)) a b here there is = absurd is
+      by_fault faults.Words a b here there is = is
+      by_fault (faults.Script kind line column) a b here there is = is
+      by_fault faults.Input a b here there is = is
+      by_fault faults.Output a b here there is = is
+
+      at : (o o' : Option (AreaView D)) → slice_get old stops.1.core ≡ o → slice_get new stops.1.core ≡ o' → IsSomeAnd o (λ a. IsSomeAnd o' (λ b. IsAreaCause view stops.1.core a b fault)) → IsOpenCause before now f f' fault
+      at None o' e e' h = absurd h
+      at (Some a) None e e' h = absurd h
+      at (Some a) (Some b) e e' h = by_fault fault a b e e' h

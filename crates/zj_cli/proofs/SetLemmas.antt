@@ -1,6 +1,7 @@
 -- Devices that are taken out of a shelf, read, and put back.
 use Rattle.std.proofs.Common.{◌≡◌, ◌≢◌, ◌⊎◌, ℕ, ◌+◌, ◌-◌, ◌^◌, ◌<◌, ◌≤◌, min, List, [], ◌∷◌, slice_index, refl, sym, ap, subst, ◌∙◌, arith, inl, inr}
 use Rattle.std.specs.Prelude.{Option, Some, None, IfSome, codes, decimal, ⊤}
+use Rattle.std.proofs.lemmas.Bool.{cases_lt}
 use Rattle.std.proofs.lemmas.Fmt.{decimal_digit, decimal_injective}
 use Rattle.zj_dev.specs.Fault.{Rose}
 use Rattle.zj_dev.specs.Disk.{Continues, DiskView, OnlyReads}
@@ -41,6 +42,24 @@ reads_refl d = record {
   goes_on = continues_refl d;
   bytes = refl;
   images = λ moment image from to. let now : moment ≡ d.calls = omega arith in ap (λ (m : ℕ). d.may_leave m image) now;
+}
+
+pub reads_trans : (a b c : DiskView) → OnlyReads a b → OnlyReads b c → OnlyReads a c
+reads_trans a b c first second = record {
+  goes_on = record {
+    size = second.goes_on.size ∙ first.goes_on.size;
+    calls = omega (arith, first.goes_on.calls, second.goes_on.calls);
+    no_fewer = omega (arith, first.goes_on.no_fewer, second.goes_on.no_fewer);
+    told = second.goes_on.told ∙ first.goes_on.told;
+    images = λ moment image early. second.goes_on.images moment image (omega (arith, first.goes_on.calls)) ∙ first.goes_on.images moment image early;
+    past = λ moment early. second.goes_on.past moment (omega (arith, first.goes_on.calls)) ∙ first.goes_on.past moment early;
+  };
+  bytes = second.bytes ∙ first.bytes;
+  images = λ moment image from to.
+      elim (cases_lt moment b.calls) [
+        | inl early ↦ second.goes_on.images moment image early ∙ first.images moment image from (omega arith)
+        | inr late ↦ second.images moment image late to ∙ first.images b.calls image first.goes_on.calls (omega arith)
+      ];
 }
 
 -- ---- one device

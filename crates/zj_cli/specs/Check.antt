@@ -98,7 +98,7 @@ IsDeviceCause before now old new device = Rose old new ⊎ RoseUnder (before (de
 
 -- the line of a core's journal: `jC from NUMBER found COUNT kept COUNT`
 abbrev pub journal_text : ℕ → ℕ → ℕ → ℕ → List ℕ
-journal_text core number found kept = journal_name core ++ codes " from " ++ decimal number ++ codes " found " ++ decimal found ++ codes " kept " ++ decimal kept ++ 10 ∷ []
+journal_text core number found kept = journal_name core ++ (codes " from " ++ (decimal number ++ (codes " found " ++ (decimal found ++ (codes " kept " ++ (decimal kept ++ 10 ∷ []))))))
 
 -- What `check` prints of an image of one core: since its transactions follow no other core's, all that are found are kept.
 pub record Checks (names : Names) (text : List ℕ) : Type 0 where
@@ -146,3 +146,13 @@ fault_of_home homes.NoMemory = faults.Memory
 -- an area that was just opened for a core of an image
 abbrev pub IsOpened : {D : Type 0} → Super → ℕ → AreaView D → Type 0
 IsOpened super core area = IfSome (slice_get super.tails core) (λ tail. area ≡ opened area.device super.sizes core tail)
+
+-- a fault that comes before anything is written
+abbrev pub IsEarly : Fault → Type 0
+IsEarly (faults.Image fault) = ⊤
+IsEarly faults.Memory = ⊤
+IsEarly faults.Words = ⊤
+IsEarly (faults.Script kind line column) = ⊤
+IsEarly faults.Input = ⊤
+IsEarly (faults.Device device) = ⊥
+IsEarly faults.Output = ⊥

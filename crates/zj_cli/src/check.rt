@@ -1,10 +1,10 @@
 //! `check`: what the journals of an image hold.
 
-ghost use Rattle.std.specs.Prelude.{◌≡◌, ◌≢◌, ◌≤◌, ◌⊎◌, List, ℕ, ◌++◌, IfOk, IfErr, OnOk, OnErr, length, string_bytes};
+ghost use Rattle.std.specs.Prelude.{◌≡◌, ◌≢◌, ◌≤◌, ◌⊎◌, List, ℕ, ◌++◌, IfOk, IfErr, OnOk, OnErr, Err, Some, ◌<◌, length, slice_get, string_bytes};
 ghost use Rattle.zj_dev.specs.Fault.{Rose};
 ghost use Rattle.zj_dev.specs.Stream.{Took};
 ghost use Rattle.zj_cli.specs.declared.status.Fault.TheVariants as faults;
-ghost use Rattle.zj_cli.specs.Check.{Checks, IsOpenCause};
+ghost use Rattle.zj_cli.specs.Check.{Checks, IsEarly, IsOpenCause, journal_text};
 ghost use Rattle.zj_cli.specs.Opening.{AllOpened};
 ghost use Rattle.zj_cli.specs.Scanning.{AreRead, IsReadCause, Prints};
 ghost use Rattle.zj_cli.specs.Set.{AllBack};
@@ -14,7 +14,7 @@ use crate::scan::scan_all;
 use crate::set::{Set, open_set};
 use crate::status::{Fault, ImageFault};
 use crate::stream::write_whole;
-use std::alloc::Global;
+use std::alloc::{AllocError, Global};
 use zj_area::Area;
 use zj_dev::{Device, Disk, Shelf, Sink};
 use zj_home::Home;
@@ -38,7 +38,75 @@ fn read_set<D: Disk>(
             device: Device::Journal(1),
         }));
     }
-    let from = home.tail(0).unwrap().number;
-    let found = counts[0];
-    Ok(format!(in alloc; "j0 from {from} found {found} kept {found}\n")?)
+    let tail = home.tail(0).unwrap();
+    let found = first(&counts);
+    // The transactions of one core follow no other core's, so all are kept.
+    Ok(journal_line(alloc, 0, tail.number, found, found)?)
+}
+
+/// The first of the counts.
+fn first(counts: &[usize]) -> usize
+    requires { 0 < length counts.now }
+    ensures { slice_get counts.now 0 ≡ Some result }
+{
+    counts[0]
+}
+
+/// The line of a core's journal: from which transaction on it was read, how many were found, and how many of
+/// those are kept.
+fn journal_line(
+    alloc: Global,
+    core: u32,
+    from: u64,
+    found: usize,
+    kept: usize,
+) -> Result<String, AllocError>
+    ensures { IfOk result (λ text. string_bytes text ≡ journal_text core from found kept) }
+{
+    let device = Device::Journal(core);
+    format!(in alloc; "{device} from {from} found {found} kept {kept}\n")
+}
+
+/// Reads the journals of an image that was opened, and prints what is in them.
+fn print_set<D: Disk, K: Sink>(
+    alloc: Global,
+    home: &Home<D>,
+    areas: &mut [Area<D>],
+    out: &mut K,
+) -> Result<(), Fault>
+    requires { AllOpened home.now.told areas.old }
+    ensures done { OnOk result ((text : List ℕ) × Prints D.view home.now.told areas.old text × Took (K.held out.old) (K.held out.new) text) }
+    ensures output { result ≡ Err faults.Output → (front rest : List ℕ) × Prints D.view home.now.told areas.old (front ++ rest) × Took (K.held out.old) (K.held out.new) front }
+    ensures output_rose { result ≡ Err faults.Output → Rose (K.faults out.old) (K.faults out.new) }
+    ensures unwritten { OnErr result (result ≢ Err faults.Output → out.new ≡ out.old) }
+    ensures read { AreRead D.view areas.old areas.new }
+    ensures cause { IfErr result (λ fault. (fault ≡ faults.Output) ⊎ IsReadCause D.view home.now.told areas.old areas.new fault) }
+{
+    let text = read_set(alloc, home, areas)?;
+    match write_whole(out, text.as_bytes()) {
+        Ok(()) => Ok(()),
+        Err(_) => Err(Fault::Output),
+    }
+}
+
+/// Prints what the journals of the image on a shelf hold. It writes no device, and all that it opened is
+/// closed again.
+///
+/// The first fault in this order counts: opening, reading the journals, writing to `out`, closing.
+pub fn check<H: Shelf, K: Sink>(alloc: Global, shelf: &mut H, out: &mut K) -> Result<(), Fault>
+    ensures back { AllBack (H.names shelf.old) (H.names shelf.new) }
+    ensures done { OnOk result ((text : List ℕ) × Checks (H.names shelf.old) text × Took (K.held out.old) (K.held out.new) text) }
+    ensures output { result ≡ Err faults.Output → (front rest : List ℕ) × Checks (H.names shelf.old) (front ++ rest) × Took (K.held out.old) (K.held out.new) front }
+    ensures output_rose { result ≡ Err faults.Output → Rose (K.faults out.old) (K.faults out.new) }
+    ensures unwritten { IfErr result (λ fault. IsEarly fault → out.new ≡ out.old) }
+    ensures written { OnErr result ((out.new ≡ out.old) ⊎ ((front rest : List ℕ) × Checks (H.names shelf.old) (front ++ rest) × Took (K.held out.old) (K.held out.new) front)) }
+    ensures cause { IfErr result (λ fault. (fault ≡ faults.Output) ⊎ IsOpenCause (H.names shelf.old) (H.names shelf.new) (H.faults shelf.old) (H.faults shelf.new) fault) }
+{
+    let Set { home, mut areas } = open_set(alloc, shelf)?;
+    let printed = print_set(alloc, &home, &mut areas, out);
+    let closed = close_set(shelf, home, areas);
+    match printed {
+        Ok(()) => closed,
+        Err(fault) => Err(fault),
+    }
 }
