@@ -1,6 +1,7 @@
 -- A set of devices that was opened, read and closed.
-use Rattle.std.proofs.Common.{◌≡◌, ◌≢◌, ◌⊎◌, ℕ, ◌+◌, ◌^◌, ◌<◌, ◌≤◌, min, List, [], ◌∷◌, length, refl, sym, ap, subst, ◌∙◌, arith, inl, inr}
-use Rattle.std.specs.Prelude.{Option, Some, None, IfSome, IsSomeAnd, MatchOption, slice_get}
+use Rattle.std.proofs.Common.{◌≡◌, ◌≢◌, ◌⊎◌, ℕ, ◌+◌, ◌^◌, ◌<◌, ◌≤◌, min, List, [], ◌∷◌, ◌++◌, length, take, drop, refl, sym, ap, subst, ◌∙◌, arith, inl, inr}
+use Rattle.std.specs.Prelude.{Option, Some, None, IfSome, IsSomeAnd, MatchOption, OnErr, OnOk, Result, Ok, Err, slice_get}
+use Rattle.std.proofs.lemmas.List.{take_at}
 use Rattle.std.proofs.lemmas.Option.{slice_get_within}
 use Rattle.zj_dev.specs.Fault.{Rose}
 use Rattle.zj_dev.specs.Disk.{DiskView, OnlyReads}
@@ -241,3 +242,33 @@ module _ {D : Type 0} (view : D → DiskView) (before mid now : Names) (home hom
       at None o' e e' h = absurd h
       at (Some a) None e e' h = absurd h
       at (Some a) (Some b) e e' h = by_fault fault a b e e' h
+
+-- what was out, was read and is closed
+pub closes : {D : Type 0} (view : D → DiskView) (before mid now : Names) (home : DiskView) (items old new : List (AreaView D)) (len : ℕ) → IsOut view before mid home items → old ≡ items → AreRead view old new → length new ≡ len
+    → (IsOut view before mid home (take len (new ++ drop (length new) items)) → IsClosed view before now home (take len (new ++ drop (length new) items))) → IsOut view before mid home old × IsClosed view before now home new
+closes view before mid now home items old new len out same read many close =
+    let out_old : IsOut view before mid home old = subst (λ (l : List (AreaView _)). IsOut view before mid home l) (sym same) out in
+    let whole : take len (new ++ drop (length new) items) ≡ new = take_at new (drop (length new) items) len many in
+    let close_new : IsOut view before mid home new → IsClosed view before now home new = subst (λ (l : List (AreaView _)). IsOut view before mid home l → IsClosed view before now home l) whole close in
+    (out_old, close_new (out_read view before mid home old new out_old read))
+
+pub if_ok : {X Y P : Type 0} (r : Result X Y) → P → OnOk r P
+if_ok (Ok x) p = p
+if_ok (Err y) p = tt
+
+pub if_err : {X Y P : Type 0} (r : Result X Y) → P → OnErr r P
+if_err (Ok x) p = tt
+if_err (Err y) p = p
+
+-- a fault is of the output, or of something else
+pub is_output : (fault : Fault) → (fault ≡ faults.Output) ⊎ (fault ≢ faults.Output)
+is_output faults.Output = inl refl
+is_output faults.Words = inr (λ e. cc)
+is_output (faults.Script kind line column) = inr (λ e. cc)
+is_output (faults.Image fault) = inr (λ e. cc)
+is_output (faults.Device device) = inr (λ e. cc)
+is_output faults.Memory = inr (λ e. cc)
+is_output faults.Input = inr (λ e. cc)
+
+pub same_fault : (a b : Fault) → ◌≡◌ {A = Result (Unit {0}) Fault} (Err a) (Err b) → a ≡ b
+same_fault a b e = cc
