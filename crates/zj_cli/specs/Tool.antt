@@ -1,10 +1,12 @@
 -- What a call of the tool reads and writes, by the code that it ends with.
-use Rattle.std.specs.Prelude.{◌≡◌, ◌⊎◌, ℕ, ◌≤◌, List, [], ◌++◌, length, Option, Some, None, IfSome, codes, ◌∷◌}
+use Rattle.std.specs.Prelude.{◌≡◌, ◌⊎◌, ℕ, ◌≤◌, List, [], ◌++◌, length, Option, Some, None, IfSome, codes, ◌∷◌, ⊤}
 use Rattle.zj_dev.specs.Stream.{Gave, Took}
 use Rattle.zj_cli.specs.declared.script.Line.{Line}
 use Rattle.zj_cli.specs.declared.status.Fault.{Fault}
 use Rattle.zj_cli.specs.declared.status.Fault.TheVariants as faults
 use Rattle.zj_cli.specs.declared.status.Status.{Status}
+use Rattle.zj_cli.specs.declared.tool.Command.{Command}
+use Rattle.zj_cli.specs.declared.tool.Command.TheVariants as commands
 use Rattle.zj_cli.specs.Script.{IsScript}
 use Rattle.zj_cli.specs.Play.{answers_text}
 
@@ -48,6 +50,24 @@ pub record Plays (old new old_held new_held : Option (List ℕ)) (rest : List �
   pub answers : written ++ rest ≡ answers_text lines
   pub took : Took old_held new_held written
 
--- the words of the one command
+-- the words of each command
 abbrev pub IsPlay : List (List ℕ) → Type 0
 IsPlay words = words ≡ codes "play" ∷ []
+
+abbrev pub IsCheck : List (List ℕ) → Type 0
+IsCheck words = words ≡ codes "check" ∷ []
+
+-- the words are those of the command
+abbrev pub IsSpelled : List (List ℕ) → Command → Type 0
+IsSpelled words commands.Play = IsPlay words
+IsSpelled words commands.Check = IsCheck words
+
+-- a fault that `play` has
+abbrev pub IsPlayFault : Fault → Type 0
+IsPlayFault (faults.Script kind line column) = ⊤
+IsPlayFault faults.Memory = ⊤
+IsPlayFault faults.Input = ⊤
+IsPlayFault faults.Output = ⊤
+IsPlayFault faults.Words = ⊥
+IsPlayFault (faults.Image fault) = ⊥
+IsPlayFault (faults.Device device) = ⊥
