@@ -3,8 +3,11 @@
 use super::*;
 use crate::answer::{Answer, write_answer};
 use std::alloc::{AllocError, Global};
+use std::process::Abort;
 use std::test::Fail;
-use zj_dev::{MemSink, MemSource};
+use zj_block::{Blocks, Sizes};
+use zj_dev::{Device, Disk, MemDisk, MemShelf, MemSink, MemSource, Shelf, ShelfFailed, Torn};
+use zj_home::Home;
 use zj_tree::{Bytes, Name, Names, Refusal, Reply};
 
 const NO_SCRIPT: Fault = Fault::Script {
@@ -24,9 +27,10 @@ fn words_of(alloc: Global, texts: &[&str]) -> Result<Vec<String>, AllocError> {
 // The status of a call of the tool, and what it wrote.
 fn outcome(alloc: Global, words: &[&str], input: &[u8]) -> Result<(Status, Vec<u8>), AllocError> {
     let words = words_of(alloc, words)?;
+    let mut shelf = MemShelf::new(alloc)?;
     let mut source = MemSource::new(alloc, input, &[])?;
     let mut sink = MemSink::new(alloc, &[])?;
-    let status = zj_tool(alloc, &words, &mut source, &mut sink);
+    let status = zj_tool(alloc, &words, &mut shelf, &mut source, &mut sink);
     let written = Vec::from_slice(alloc, sink.bytes())?;
     Ok((status, written))
 }
@@ -59,8 +63,8 @@ fn plays_scripts(rt: HostRuntime) -> Result<(), Fail> {
 }
 
 #[test]
-fn takes_one_command(rt: HostRuntime) -> Result<(), Fail> {
-    let table: [&[&str]; 5] = [&["mak"], &[], &["play", "play"], &["play "], &[""]];
+fn refuses_other_words(rt: HostRuntime) -> Result<(), Fail> {
+    let table: [&[&str]; 6] = [&["mak"], &[], &["play", "play"], &["play "], &[""], &["check", "home"]];
     for words in table {
         let (status, written) = outcome(rt.alloc(), words, b"0 list /\n")?;
         assert_eq!(rt; status.code(), 1);
@@ -145,7 +149,8 @@ fn tells_faults_of_the_streams(rt: HostRuntime) -> Result<(), Fail> {
     for (reads, writes, want, text) in table {
         let mut source = MemSource::new(alloc, b"0 list /\n", reads)?;
         let mut sink = MemSink::new(alloc, writes)?;
-        let status = zj_tool(alloc, &words, &mut source, &mut sink);
+        let mut shelf = MemShelf::new(alloc)?;
+        let status = zj_tool(alloc, &words, &mut shelf, &mut source, &mut sink);
         assert_eq!(rt; status.fault().copied(), want);
         assert_eq!(rt; sink.bytes(), text.as_bytes());
     }
@@ -157,6 +162,56 @@ fn spells_faults(rt: HostRuntime) -> Result<(), Fail> {
     let table = [
         (Fault::Words, 1, "words"),
         (NO_SCRIPT, 2, "script line 0 column 0 kind 0"),
+        (
+            Fault::Image(ImageFault::Absent {
+                device: Device::Home,
+            }),
+            3,
+            "image absent home",
+        ),
+        (
+            Fault::Image(ImageFault::NotAnImage { at: 41 }),
+            3,
+            "image notanimage at 41",
+        ),
+        (
+            Fault::Image(ImageFault::Version { found: 2 }),
+            3,
+            "image version found 2",
+        ),
+        (
+            Fault::Image(ImageFault::Sizes {
+                device: Device::Journal(0),
+                found: 1,
+                expected: 2,
+            }),
+            3,
+            "image sizes j0 found 1 expected 2",
+        ),
+        (
+            Fault::Image(ImageFault::Damaged {
+                device: Device::Journal(0),
+                at: 8,
+                found: 5,
+                expected: 0,
+            }),
+            3,
+            "image damaged j0 at 8 found 5 expected 0",
+        ),
+        (
+            Fault::Image(ImageFault::Unbuilt {
+                device: Device::Journal(1),
+            }),
+            3,
+            "image unbuilt j1",
+        ),
+        (
+            Fault::Device {
+                device: Device::Journal(0),
+            },
+            4,
+            "device j0",
+        ),
         (Fault::Memory, 5, "memory"),
         (Fault::Input, 6, "input"),
         (Fault::Output, 7, "output"),
@@ -241,5 +296,192 @@ fn spells_refusals(rt: HostRuntime) -> Result<(), Fail> {
             line.as_bytes()
         );
     }
+    Ok(())
+}
+
+// The bytes of a home of 64 blocks with zeros in them, 8 nodes and these cores, whose journals have this area.
+fn home_image(rt: &impl Abort, alloc: Global, cores: u32, area: u64) -> Result<Vec<u8>, AllocError> {
+    let sizes = Sizes::new(1, 64, 8, cores, area).expect(rt, "within the limits");
+    let bytes = vec![in alloc; 0u8; 40960]?;
+    let disk = MemDisk::new(alloc, &bytes, &[], None)?;
+    let blocks = Blocks::zero(alloc, 64)?;
+    assert_eq!(rt; disk.len(), 40960);
+    assert_eq!(rt; zj_home::home_len(&sizes), 40960);
+    assert_eq!(rt; blocks.len(), 64);
+    assert_eq!(rt; sizes.blocks(), 64);
+    match Home::make(alloc, disk, &sizes, &blocks) {
+        Ok(home) => home.into_device().image(alloc, Torn::Lost),
+        Err(_) => Err(AllocError),
+    }
+}
+
+// A journal of 50,752 bytes that begins with these, and zeros behind them.
+fn journal(alloc: Global, front: &[u8]) -> Result<Vec<u8>, AllocError> {
+    let mut bytes = Vec::from_slice(alloc, front)?;
+    bytes.resize(50752, 0)?;
+    Ok(bytes)
+}
+
+// A record of no block, of the only core's transaction 0.
+const RECORD: [u8; 32] = [
+    1, 0, 0, 0, 0, 0, 0, 0, 0, 0, 0, 0, 0, 0, 0, 0, 0, 0, 0, 0, 1, 0, 0, 0, 0, 0, 0, 0, 0, 0, 0, 0,
+];
+
+// A shelf with these devices, whose calls of these numbers fail.
+fn shelf_of(
+    alloc: Global,
+    devices: &[(&str, &[u8], &[u64])],
+) -> Result<MemShelf, AllocError> {
+    let mut shelf = MemShelf::new(alloc)?;
+    for (name, bytes, failing) in devices {
+        let _ = shelf.put(name, MemDisk::new(alloc, bytes, failing, None)?)?;
+    }
+    Ok(shelf)
+}
+
+// What `check` answers over a shelf, and what it wrote.
+fn checked<H: Shelf>(alloc: Global, shelf: &mut H) -> Result<(Status, Vec<u8>), AllocError> {
+    let words = words_of(alloc, &["check"])?;
+    let mut source = MemSource::new(alloc, b"0 list /\n", &[0])?;
+    let mut sink = MemSink::new(alloc, &[])?;
+    let status = zj_tool(alloc, &words, shelf, &mut source, &mut sink);
+    let written = Vec::from_slice(alloc, sink.bytes())?;
+    Ok((status, written))
+}
+
+#[test]
+fn checks_a_journal(rt: HostRuntime) -> Result<(), Fail> {
+    let alloc = rt.alloc();
+    let home = home_image(&rt, alloc, 1, 50752)?;
+    let mut closed = RECORD;
+    closed[0] = 7;
+    for (front, text) in [
+        ([0; 32], "j0 from 0 found 0 kept 0\n"),
+        (RECORD, "j0 from 0 found 1 kept 1\n"),
+        (closed, "j0 from 0 found 0 kept 0\n"),
+    ] {
+        let journal = journal(alloc, &front)?;
+        let mut shelf = shelf_of(alloc, &[("home", &home, &[]), ("j0", &journal, &[])])?;
+        let (status, written) = checked(alloc, &mut shelf)?;
+        assert_eq!(rt; status.code(), 0);
+        assert_eq!(rt; written.as_slice(), text.as_bytes());
+        let left = shelf.take("j0").ok_or("closed again")?;
+        assert_eq!(rt; left.image(alloc, Torn::Whole)?.as_slice(), journal.as_slice());
+        assert!(rt; shelf.take("home").is_some(), "closed again");
+    }
+    Ok(())
+}
+
+#[test]
+fn refuses_what_is_no_image(rt: HostRuntime) -> Result<(), Fail> {
+    let alloc = rt.alloc();
+    let home = home_image(&rt, alloc, 1, 50752)?;
+    let mut no_home = Vec::from_slice(alloc, &home)?;
+    assert!(rt; !no_home.is_empty());
+    no_home[0] = 0;
+    let mut number = RECORD;
+    number[8] = 5;
+    let bad = journal(alloc, &number)?;
+    let good = journal(alloc, &RECORD)?;
+    assert_eq!(rt; good.len(), 50752);
+    let j0 = Device::Journal(0);
+    let table: [(&[(&str, &[u8], &[u64])], ImageFault); 5] = [
+        (
+            &[("j0", &good, &[])],
+            ImageFault::Absent {
+                device: Device::Home,
+            },
+        ),
+        (&[("home", &home, &[])], ImageFault::Absent { device: j0 }),
+        (
+            &[("home", &home, &[]), ("j0", &good[..50751], &[])],
+            ImageFault::Sizes {
+                device: j0,
+                found: 50751,
+                expected: 50752,
+            },
+        ),
+        (
+            &[("home", &no_home, &[]), ("j0", &good, &[])],
+            ImageFault::NotAnImage { at: 0 },
+        ),
+        (
+            &[("home", &home, &[]), ("j0", &bad, &[])],
+            ImageFault::Damaged {
+                device: j0,
+                at: 8,
+                found: 5,
+                expected: 0,
+            },
+        ),
+    ];
+    for (devices, fault) in table {
+        let mut shelf = shelf_of(alloc, devices)?;
+        let (status, written) = checked(alloc, &mut shelf)?;
+        assert_eq!(rt; status.fault().copied(), Some(Fault::Image(fault)));
+        assert_eq!(rt; written.len(), 0);
+        for (name, _, _) in devices {
+            assert!(rt; shelf.take(name).is_some(), "closed again");
+        }
+    }
+    Ok(())
+}
+
+#[test]
+fn more_cores_than_one_are_not_checked_yet(rt: HostRuntime) -> Result<(), Fail> {
+    let alloc = rt.alloc();
+    let home = home_image(&rt, alloc, 2, 50768)?;
+    let journal = vec![in alloc; 0u8; 50768]?;
+    let mut shelf = shelf_of(alloc, &[("home", &home, &[]), ("j0", &journal, &[])])?;
+    let (status, _) = checked(alloc, &mut shelf)?;
+    let device = Device::Journal(1);
+    let absent = Fault::Image(ImageFault::Absent { device });
+    assert_eq!(rt; status.fault().copied(), Some(absent));
+    let _ = shelf.put("j1", MemDisk::new(alloc, &journal, &[], None)?)?;
+    let (status, written) = checked(alloc, &mut shelf)?;
+    let unbuilt = Fault::Image(ImageFault::Unbuilt { device });
+    assert_eq!(rt; status.fault().copied(), Some(unbuilt));
+    assert_eq!(rt; written.len(), 0);
+    Ok(())
+}
+
+#[test]
+fn tells_the_device_that_failed(rt: HostRuntime) -> Result<(), Fail> {
+    let alloc = rt.alloc();
+    let home = home_image(&rt, alloc, 1, 50752)?;
+    let journal = journal(alloc, &RECORD)?;
+    let j0 = Device::Journal(0);
+    let table: [(&[u64], &[u64], Option<Device>); 5] = [
+        (&[0], &[], Some(Device::Home)),
+        (&[1], &[], None),
+        (&[], &[0], Some(j0)),
+        (&[], &[1], Some(j0)),
+        (&[], &[2], None),
+    ];
+    for (of_home, of_journal, device) in table {
+        let mut shelf = shelf_of(
+            alloc,
+            &[("home", &home, of_home), ("j0", &journal, of_journal)],
+        )?;
+        let (status, _) = checked(alloc, &mut shelf)?;
+        let fault = device.map(|device| Fault::Device { device });
+        assert_eq!(rt; status.fault().copied(), fault);
+        assert!(rt; shelf.take("home").is_some() && shelf.take("j0").is_some());
+    }
+    Ok(())
+}
+
+#[test]
+fn tells_a_fault_of_the_output_of_check(rt: HostRuntime) -> Result<(), Fail> {
+    let alloc = rt.alloc();
+    let home = home_image(&rt, alloc, 1, 50752)?;
+    let journal = journal(alloc, &RECORD)?;
+    let mut shelf = shelf_of(alloc, &[("home", &home, &[]), ("j0", &journal, &[])])?;
+    let words = words_of(alloc, &["check"])?;
+    let mut source = MemSource::new(alloc, b"", &[])?;
+    let mut sink = MemSink::new(alloc, &[0])?;
+    let status = zj_tool(alloc, &words, &mut shelf, &mut source, &mut sink);
+    assert_eq!(rt; status.fault().copied(), Some(Fault::Output));
+    assert!(rt; shelf.take("home").is_some() && shelf.take("j0").is_some());
     Ok(())
 }
