@@ -1,8 +1,8 @@
 //! An area: one core's journal on a device that it owns.
 
-ghost use Rattle.std.specs.Prelude.{◌≡◌, ◌<◌, ◌^◌, ◌++◌, [], ◌∷◌, List, None, Some, IsSome, IfOk, IfErr, IfSome, OnOk, OnErr, MatchResult, true, false, is_some, length};
+ghost use Rattle.std.specs.Prelude.{◌≡◌, ◌<◌, ◌+◌, ◌^◌, ◌++◌, [], ◌∷◌, List, None, Some, IsSome, IfOk, IfErr, IfSome, OnOk, OnErr, MatchResult, true, false, is_some, length};
 ghost use Rattle.zj_dev.specs.Fault.{Rose};
-ghost use Rattle.zj_dev.specs.Disk.{Continues, EachImageSince, IsSettled, OnlyReads};
+ghost use Rattle.zj_dev.specs.Disk.{Continues, EachImageSince, IsDisk, IsSettled, OnlyReads};
 ghost use Rattle.zj_tx.specs.Record.{Accepts, Record};
 ghost use Rattle.zj_area.specs.Ring.{IsPlace, behind};
 ghost use Rattle.zj_area.specs.Journal.{IsAtRest, IsLaid, fullness, journal_of, lacking, opened};
@@ -143,7 +143,8 @@ impl<D: Disk> Area<D> {
 
     /// Where the next record is due, once the journal was scanned.
     pub fn end(&self) -> Tail
-        ensures { result ≡ self.now.end }
+        ensures end { result ≡ self.now.end }
+        ensures place { IsPlace self.now.sizes result.place }
     {
         self.end
     }
@@ -178,6 +179,7 @@ impl<D: Disk> Area<D> {
         ensures images { EachImageSince (D.view self.old.device).calls (D.view self.new.device) (λ image. (D.view self.old.device).may_leave (D.view self.old.device).calls image ≡ true) }
         ensures continues { Continues (D.view self.old.device) (D.view self.new.device) }
         ensures same { self.new ≡ record self.old { device = self.new.device } }
+        ensures is_disk { IsDisk (D.view self.new.device) }
         ensures cause { OnErr result (Rose (D.view self.old.device).faults (D.view self.new.device).faults) }
     {
         match sync(&mut self.device) {
@@ -198,6 +200,7 @@ impl<D: Disk> Area<D> {
         ensures end { OnOk result (IsKnown (journal_of D.view self.old) → self.new.end ≡ self.old.end) }
         ensures err { OnErr result (self.new ≡ record self.old { device = self.new.device }) }
         ensures left { OnlyReads (D.view self.old.device) (D.view self.new.device) }
+        ensures is_disk { IsDisk (D.view self.new.device) }
         ensures cause { IfErr result (IsScanCause (journal_of D.view self.old) (D.view self.new.device)) }
     {
         let (found, end) = read_records(
@@ -253,6 +256,8 @@ impl<D: Disk> Area<D> {
         ensures moments { LaysQuietly (journal_of D.view self.old) (journal_of D.view self.new) }
         ensures failed { OnErr result (self.new ≡ record self.old { device = self.new.device; failed = true }) }
         ensures continues { Continues (D.view self.old.device) (D.view self.new.device) }
+        ensures three { OnOk result ((D.view self.new.device).calls ≡ (D.view self.old.device).calls + 3) }
+        ensures is_disk { IsDisk (D.view self.new.device) }
         ensures cause { OnErr result (Rose (D.view self.old.device).faults (D.view self.new.device).faults) }
     {
         let len = sealed.record_len();
@@ -290,6 +295,8 @@ impl<D: Disk> Area<D> {
         ensures begins { IfSome self.old.laid (BeginsQuietly (journal_of D.view self.old) (journal_of D.view self.new)) }
         ensures failed { OnErr result (self.new ≡ record self.old { device = self.new.device; failed = true; laid = None }) }
         ensures continues { Continues (D.view self.old.device) (D.view self.new.device) }
+        ensures two { OnOk result ((D.view self.new.device).calls ≡ (D.view self.old.device).calls + 2) }
+        ensures is_disk { IsDisk (D.view self.new.device) }
         ensures cause { OnErr result (Rose (D.view self.old.device).faults (D.view self.new.device).faults) }
     {
         let next = self.next_end().unwrap();

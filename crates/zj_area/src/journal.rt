@@ -1,7 +1,8 @@
 //! What the layers above know of a journal: what it holds, and where its next record is due.
 
 ghost use Rattle.std.specs.Prelude.{◌≡◌, true, IfOk, IfErr, OnOk, OnErr};
-ghost use Rattle.zj_dev.specs.Disk.{OnlyReads};
+ghost use Rattle.zj_dev.specs.Disk.{IsDisk, OnlyReads};
+ghost use Rattle.zj_area.specs.Ring.{IsPlace};
 ghost use Rattle.zj_area.specs.Journal.{JournalView, journal_of};
 ghost use Rattle.zj_area.specs.Cause.{Finds, IsKnown, IsScanCause};
 
@@ -28,11 +29,13 @@ pub trait Journal {
         ensures end { OnOk result (IsKnown (journal self.old) → (journal self.new).end ≡ (journal self.old).end) }
         ensures err { OnErr result (journal self.new ≡ record (journal self.old) { disk = (journal self.new).disk }) }
         ensures left { OnlyReads (journal self.old).disk (journal self.new).disk }
+        ensures is_disk { IsDisk (journal self.new).disk }
         ensures cause { IfErr result (IsScanCause (journal self.old) (journal self.new).disk) };
 
     /// Where the next record is due, once the journal was read.
     fn end(&self) -> Tail
-        ensures { result ≡ (journal self.now).end };
+        ensures end { result ≡ (journal self.now).end }
+        ensures place { IsPlace (journal self.now).sizes result.place };
 }
 
 impl<D: Disk> Journal for Area<D> {

@@ -16,3 +16,6 @@ mod ring;
 pub use area::{Area, Full, Returned};
 pub use fault::{DiskFault, ScanFault};
 pub use journal::Journal;
+
+#[cfg(test)]
+mod tests;
