@@ -1,4 +1,4 @@
-//! The program `zj`: the top call over the real standard streams.
+//! The program `zj`: the top call over the current folder and the real standard streams.
 #![tactic(auto)]
 
 mod usage;
@@ -6,7 +6,7 @@ mod usage;
 use std::process::ExitCode;
 use std::{env, io};
 use zj_cli::{Status, zj_tool};
-use zj_dev::{InSource, OutSink};
+use zj_dev::{FolderShelf, InSource, OutSink};
 
 fn main(rt: HostRuntime) -> io::Result<ExitCode> {
     let alloc = rt.alloc();
@@ -15,9 +15,16 @@ fn main(rt: HostRuntime) -> io::Result<ExitCode> {
         print!(rt; "{text}")?;
         return Ok(ExitCode::SUCCESS);
     }
+    let mut shelf = FolderShelf::new(&rt);
     let mut input = InSource::new(rt.reader());
     let mut out = OutSink::new(io::writer(&rt));
-    let status = zj_tool(rt.alloc(), words.as_slice(), &mut input, &mut out);
+    let status = zj_tool(
+        rt.alloc(),
+        words.as_slice(),
+        &mut shelf,
+        &mut input,
+        &mut out,
+    );
     tell_fault(&rt, &status);
     Ok(ExitCode::from(status.code()))
 }

@@ -6,9 +6,11 @@ const HELP: &str = "zj: a journalling file service, proved
 
 Usage:
   zj play         runs the script on standard input and prints the answers
+  zj check        checks the image in the current folder
   zj --help       prints this text
   zj --version    prints the version
 
+play
 A script has one call a line, each with the core that makes it:
   0 mkdir PATH    makes an empty directory
   0 list PATH     prints the names in a directory, ascending
@@ -16,7 +18,7 @@ A path is / or names behind slashes, as /mail/new: at most 16 names, each of 1 t
 26 of the letters a to z and A to Z, digits, and . _ - (but not . or .. alone).
 A script has at most 65,536 lines and 16,777,216 bytes.
 
-`play` starts from the root alone, with room for 8 entries, and prints one line
+play starts from the root alone, with room for 8 entries, and prints one line
 for each call: LINE CORE TICKET REPLY. Nothing is kept when it ends.
 
 Example:
@@ -25,8 +27,18 @@ prints
   1 0 0 ok
   2 0 1 names a
 
+check
+An image is the file home and the journals j0, j1 and on, one for each core; home
+tells how many. check reads them and changes none. It prints one line for each
+journal: where its tail begins, how many transactions it holds and how many of
+them a recovery would keep, as
+  j0 from 0 found 1 kept 1
+An image of more cores than one is refused as not built yet, with status 3.
+
 Status: 0 done; and with a text on standard error: 1 the words are no command,
-2 the input is no script, 5 no memory, 6 reading failed, 7 writing failed.
+2 the input is no script, 3 a device of the image is absent or holds something
+else, 4 reading or closing a device failed, 5 no memory, 6 reading standard input
+failed, 7 writing failed.
 ";
 
 /// The text that the words ask for, or None where they are for the top call.

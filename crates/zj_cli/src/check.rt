@@ -21,11 +21,7 @@ use zj_home::Home;
 
 /// Reads the journals of an image of one core, and tells what is in it. All journals are read before one of
 /// more cores is refused.
-fn read_set<D: Disk>(
-    alloc: Global,
-    home: &Home<D>,
-    areas: &mut [Area<D>],
-) -> Result<String, Fault>
+fn read_set<D: Disk>(alloc: Global, home: &Home<D>, areas: &mut [Area<D>]) -> Result<String, Fault>
     requires { AllOpened home.now.told areas.old }
     ensures text { IfOk result (λ text. Prints D.view home.now.told areas.old (string_bytes text)) }
     ensures read { AreRead D.view areas.old areas.new }

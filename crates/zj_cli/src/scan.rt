@@ -18,11 +18,13 @@ fn scan_one<D: Disk>(area: &mut Area<D>, core: u32) -> Result<usize, Fault>
     match area.scan() {
         Ok(found) => Ok(found.len()),
         Err(ScanFault::DiskFault) => Err(Fault::Device { device }),
-        Err(ScanFault::Damaged {
-            at,
-            found,
-            expected,
-        }) => Err(Fault::Image(ImageFault::Damaged {
+        Err(
+            ScanFault::Damaged {
+                at,
+                found,
+                expected,
+            },
+        ) => Err(Fault::Image(ImageFault::Damaged {
             device,
             at,
             found,

@@ -11,13 +11,19 @@ use zj_dev::Device;
 pub enum ImageFault {
     /// No such device is at hand.
     #[error("absent {device}")]
-    Absent { device: Device },
+    Absent {
+        device: Device,
+    },
     /// Home is no home: the first byte that tells it is the one at this place.
     #[error("notanimage at {at}")]
-    NotAnImage { at: u64 },
+    NotAnImage {
+        at: u64,
+    },
     /// Home is of another version of the format.
     #[error("version found {found}")]
-    Version { found: u32 },
+    Version {
+        found: u32,
+    },
     /// The device has another length, in bytes, than the image says.
     #[error("sizes {device} found {found} expected {expected}")]
     Sizes {
@@ -36,7 +42,9 @@ pub enum ImageFault {
     },
     /// The image has that device, and more than one core can't be checked yet.
     #[error("unbuilt {device}")]
-    Unbuilt { device: Device },
+    Unbuilt {
+        device: Device,
+    },
 }
 
 /// Why a call of the tool ended before all was done.

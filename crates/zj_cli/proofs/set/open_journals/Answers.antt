@@ -35,9 +35,12 @@ returns-in_err-area-clause-cause g c =
     let cause = journal_cause_since _ (g.H.Shelf.faults c.args.shelf.now) (g.H.Shelf.faults c.loop-core.shelf) (g.H.Shelf.faults c.open_journal.new.shelf) c.args.home.now.told c.loop-core.core c.in_err-area.field-0.0 c.loop-core.invariant.no_fewer c.in_err-area.ensures.cause in
     let same = ap (λ (n : Numbers). n.cores) c.sizes.ensures in
     let below : c.loop-core.core < c.args.home.now.told.sizes.cores = omega (arith, c.cores-core-end.ensures.value, same, c.loop-core-test.true) in
-    rw (p.1, p.2)
-    (c.loop-core.core, below, c.loop-core.invariant.opened.lengths,
-    subst (λ (s : Slot). IsJournalCause s (g.H.Shelf.faults c.args.shelf.now) (g.H.Shelf.faults c.open_journal.new.shelf) c.args.home.now.told c.loop-core.core c.in_err-area.field-0.0) here cause)
+    rw (p.1, p.2) (
+      c.loop-core.core,
+      below,
+      c.loop-core.invariant.opened.lengths,
+      subst (λ (s : Slot). IsJournalCause s (g.H.Shelf.faults c.args.shelf.now) (g.H.Shelf.faults c.open_journal.new.shelf) c.args.home.now.told c.loop-core.core c.in_err-area.field-0.0) here cause,
+    )
 
 pub loop-core-preserved : goal.loop-core-preserved
 loop-core-preserved g c =
