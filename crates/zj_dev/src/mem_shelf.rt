@@ -173,7 +173,7 @@ fn blank(alloc: Global, len: u64) -> Result<MemDisk, AllocError>
 }
 
 impl Shelf for MemShelf {
-    ghost use Rattle.std.specs.Prelude.{◌≡◌, ◌≤◌, ◌^◌, [], Ok, option_map, IsOk, IfOk, IfSome, OnErr};
+    ghost use Rattle.std.specs.Prelude.{◌≡◌, ◌≤◌, ◌^◌, [], Ok, option_map, IsOk, IfOk, IfSome, OnErr, OnOk};
     ghost use Rattle.zj_dev.specs.Fault.{Rose};
     ghost use Rattle.zj_dev.specs.Shelf.{OthersStay, Opens, Creates, FailsToCreate, Closes};
     ghost use Rattle.zj_dev.specs.MemDisk.{disk_view, failing_calls, stop_call};
@@ -190,6 +190,7 @@ impl Shelf for MemShelf {
         ensures err { OnErr result (shelf_names self.new name.now ≡ shelf_names self.old name.now) }
         ensures others { OthersStay name.now (shelf_names self.old) (shelf_names self.new) }
         ensures cause { OnErr result (Rose (shelf_faults self.old) (shelf_faults self.new)) }
+        ensures quiet { OnOk result (shelf_faults self.new ≡ shelf_faults self.old) }
         ensures no_fewer { shelf_faults self.old ≤ shelf_faults self.new }
         ensures taken { result ≡ Ok (held_under self.old name.now).disk }
     {
@@ -205,6 +206,7 @@ impl Shelf for MemShelf {
         ensures err { OnErr result (FailsToCreate (shelf_names self.old name.now) (shelf_names self.new name.now)) }
         ensures others { OthersStay name.now (shelf_names self.old) (shelf_names self.new) }
         ensures cause { OnErr result (Rose (shelf_faults self.old) (shelf_faults self.new)) }
+        ensures quiet { OnOk result (shelf_faults self.new ≡ shelf_faults self.old) }
         ensures no_fewer { shelf_faults self.old ≤ shelf_faults self.new }
         ensures failing { IfOk result (λ disk. IfSome disk (λ made. failing_calls made ≡ [])) }
         ensures stop { IfOk result (λ disk. IfSome disk (λ made. stop_call made ≡ 2 ^ 63)) }
@@ -225,6 +227,7 @@ impl Shelf for MemShelf {
         ensures closed { Closes (disk_view d) (shelf_names self.old name.now) (shelf_names self.new name.now) }
         ensures others { OthersStay name.now (shelf_names self.old) (shelf_names self.new) }
         ensures cause { OnErr result (Rose (shelf_faults self.old) (shelf_faults self.new)) }
+        ensures quiet { OnOk result (shelf_faults self.new ≡ shelf_faults self.old) }
         ensures no_fewer { shelf_faults self.old ≤ shelf_faults self.new }
         ensures ok { IsOk result }
     {

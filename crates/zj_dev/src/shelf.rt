@@ -1,6 +1,6 @@
 //! Shelves: devices under names.
 
-ghost use Rattle.std.specs.Prelude.{◌≡◌, ℕ, ◌≤◌, List, option_map, IfOk, OnErr};
+ghost use Rattle.std.specs.Prelude.{◌≡◌, ℕ, ◌≤◌, List, option_map, IfOk, OnErr, OnOk};
 ghost use Rattle.zj_dev.specs.Fault.{Rose};
 ghost use Rattle.zj_dev.specs.Shelf.{Names, OthersStay, Opens, Creates, FailsToCreate, Closes};
 
@@ -21,7 +21,7 @@ pub trait Shelf {
     /// What stands under each name, where the shelf tells it.
     ghost names: { Self → Names };
 
-    /// How many calls have failed.
+    /// How many calls have failed. One that answers Ok leaves the count.
     ghost faults: { Self → ℕ };
 
     /// Takes the device of that name, which is out until it is closed. None exactly where no device of that
@@ -31,6 +31,7 @@ pub trait Shelf {
         ensures err { OnErr result (names self.new name.now ≡ names self.old name.now) }
         ensures others { OthersStay name.now (names self.old) (names self.new) }
         ensures cause { OnErr result (Rose (faults self.old) (faults self.new)) }
+        ensures quiet { OnOk result (faults self.new ≡ faults self.old) }
         ensures no_fewer { faults self.old ≤ faults self.new };
 
     /// Makes a device of `len` zero bytes, with nothing pending. It is out until it is closed. None exactly
@@ -41,6 +42,7 @@ pub trait Shelf {
         ensures err { OnErr result (FailsToCreate (names self.old name.now) (names self.new name.now)) }
         ensures others { OthersStay name.now (names self.old) (names self.new) }
         ensures cause { OnErr result (Rose (faults self.old) (faults self.new)) }
+        ensures quiet { OnOk result (faults self.new ≡ faults self.old) }
         ensures no_fewer { faults self.old ≤ faults self.new };
 
     /// Puts a device back under its name, which was out, also where it answers `ShelfFailed`.
@@ -48,6 +50,7 @@ pub trait Shelf {
         ensures closed { Closes (Self.D.view d) (names self.old name.now) (names self.new name.now) }
         ensures others { OthersStay name.now (names self.old) (names self.new) }
         ensures cause { OnErr result (Rose (faults self.old) (faults self.new)) }
+        ensures quiet { OnOk result (faults self.new ≡ faults self.old) }
         ensures no_fewer { faults self.old ≤ faults self.new };
 }
 
