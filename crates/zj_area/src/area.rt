@@ -1,6 +1,6 @@
 //! An area: one core's journal on a device that it owns.
 
-ghost use Rattle.std.specs.Prelude.{◌≡◌, ◌<◌, ◌+◌, ◌^◌, ◌++◌, [], ◌∷◌, List, None, Some, IsSome, IfOk, IfErr, IfSome, OnOk, OnErr, MatchResult, true, false, is_some, length};
+ghost use Rattle.std.specs.Prelude.{◌≡◌, ◌<◌, ◌≤◌, ◌+◌, ◌^◌, ◌++◌, [], ◌∷◌, List, None, Some, IsSome, IfOk, IfErr, IfSome, OnOk, OnErr, MatchResult, true, false, is_some, length};
 ghost use Rattle.zj_dev.specs.Fault.{Rose};
 ghost use Rattle.zj_dev.specs.Disk.{Continues, EachImageSince, IsDisk, IsSettled, OnlyReads};
 ghost use Rattle.zj_tx.specs.Record.{Accepts, Record};
@@ -243,8 +243,12 @@ impl<D: Disk> Area<D> {
 
     /// Lays the record of a transaction behind the last one, its gate closed: three calls of the device.
     ///
-    /// Whatever a crash leaves, at any moment of it, holds the records before. After `DiskFault` the area
-    /// has failed.
+    /// Where the area is at rest, whatever a crash leaves, at any moment of it, holds the records before. An
+    /// area is at rest when nothing is pending and its records lie between the tail and the end, as those do
+    /// that commits laid one behind the other. A scan doesn't test it: bytes of another origin may be read as
+    /// records that overlap.
+    ///
+    /// After `DiskFault` the area has failed.
     pub fn lay(&mut self, sealed: &Sealed) -> Result<(), DiskFault>
         requires ready { self.old.ready ≡ true }
         requires sound { self.old.failed ≡ false }
@@ -257,6 +261,7 @@ impl<D: Disk> Area<D> {
         ensures failed { OnErr result (self.new ≡ record self.old { device = self.new.device; failed = true }) }
         ensures continues { Continues (D.view self.old.device) (D.view self.new.device) }
         ensures three { OnOk result ((D.view self.new.device).calls ≡ (D.view self.old.device).calls + 3) }
+        ensures no_more { (D.view self.new.device).calls ≤ (D.view self.old.device).calls + 3 }
         ensures is_disk { IsDisk (D.view self.new.device) }
         ensures cause { OnErr result (Rose (D.view self.old.device).faults (D.view self.new.device).faults) }
     {
@@ -296,6 +301,7 @@ impl<D: Disk> Area<D> {
         ensures failed { OnErr result (self.new ≡ record self.old { device = self.new.device; failed = true; laid = None }) }
         ensures continues { Continues (D.view self.old.device) (D.view self.new.device) }
         ensures two { OnOk result ((D.view self.new.device).calls ≡ (D.view self.old.device).calls + 2) }
+        ensures no_more { (D.view self.new.device).calls ≤ (D.view self.old.device).calls + 2 }
         ensures is_disk { IsDisk (D.view self.new.device) }
         ensures cause { OnErr result (Rose (D.view self.old.device).faults (D.view self.new.device).faults) }
     {

@@ -31,6 +31,7 @@ pub fn lay_at<D: Disk>(d: &mut D, place: u64, record: &[u8], next: u64) -> Resul
     ensures continues { Continues (D.view d.old) (D.view d.new) }
     ensures is_disk { IsDisk (D.view d.new) }
     ensures three { OnOk result ((D.view d.new).calls ≡ (D.view d.old).calls + 3) }
+    ensures no_more { (D.view d.new).calls ≤ (D.view d.old).calls + 3 }
     ensures cause { OnErr result (Rose (D.view d.old).faults (D.view d.new).faults) }
 {
     write_at(d, place + 1, &record[1..])?;
@@ -58,6 +59,7 @@ pub fn lay_record<D: Disk>(
     ensures is_disk { IsDisk (D.view d.new) }
     ensures gate { slice_index (record_bytes sealed.now) 0 ≡ 1 }
     ensures three { OnOk result ((D.view d.new).calls ≡ (D.view d.old).calls + 3) }
+    ensures no_more { (D.view d.new).calls ≤ (D.view d.old).calls + 3 }
     ensures cause { OnErr result (Rose (D.view d.old).faults (D.view d.new).faults) }
 {
     gate_is_open();
@@ -78,6 +80,7 @@ pub fn open_at<D: Disk>(d: &mut D, place: u64) -> Result<(), DiskFailed>
     ensures is_disk { IsDisk (D.view d.new) }
     ensures counted { OnOk result (((D.view d.old).calls < 2 ^ 63) × ((D.view d.old).calls + 1 ≤ (D.view d.new).calls)) }
     ensures two { OnOk result ((D.view d.new).calls ≡ (D.view d.old).calls + 2) }
+    ensures no_more { (D.view d.new).calls ≤ (D.view d.old).calls + 2 }
     ensures cause { OnErr result (Rose (D.view d.old).faults (D.view d.new).faults) }
 {
     write_at(d, place, &[OPEN])?;
