@@ -1,6 +1,6 @@
 -- The devices of an image, put back one after the other.
 use Rattle.std.proofs.Common.{◌≡◌, ◌≢◌, inl, inr, ℕ, ◌+◌, ◌^◌, ◌<◌, ◌≤◌, List, ◌∷◌, length, drop, get_or, sym, ap, subst, ◌∙◌, arith, below_more}
-use Rattle.std.specs.Prelude.{IfErr, IfSome, MatchOption, slice_get, Option, Some, None, Result, Ok, Err}
+use Rattle.std.specs.Prelude.{IfErr, IfSome, OnOk, MatchOption, slice_get, Option, Some, None, Result, Ok, Err}
 use Rattle.std.specs.Result.{result_and}
 use Rattle.std.specs.Fmt.{decimal}
 use Rattle.std.proofs.lemmas.Fmt.{decimal_injective}
@@ -114,6 +114,16 @@ pub first_fault : {T : Type 0} (first one both : Result T Fault) (device : Devic
     → IfErr one (λ fault. (fault ≡ faults.Device device) × Rose now new) → HasCause both old new
 first_fault first one both device old now new is was no_fewer rises cause =
     subst (λ r. HasCause r old new) (sym is) (first_of first one device old now new was no_fewer rises cause)
+
+quiet_of : {T : Type 0} (first one : Result T Fault) (old now new : ℕ) → OnOk first (now ≡ old) → OnOk one (new ≡ now) → OnOk (result_and first one) (new ≡ old)
+quiet_of (Ok x) (Ok y) old now new was is = is ∙ was
+quiet_of (Ok x) (Err fault) old now new was is = tt
+quiet_of (Err fault) one old now new was is = tt
+
+-- where neither of two calls failed, the count of faults is as it was
+pub all_quiet : {T : Type 0} (first one both : Result T Fault) (old now new : ℕ) → both ≡ result_and first one → OnOk first (now ≡ old) → OnOk one (new ≡ now) → OnOk both (new ≡ old)
+all_quiet first one both old now new is was quiet =
+    subst (λ r. OnOk r (new ≡ old)) (sym is) (quiet_of first one old now new was quiet)
 
 -- the journals of these areas are closed, and those of no area are kept
 pub closed_or_kept : {D : Type 0} (view : D → DiskView) (areas : List (AreaView D)) (old new : Names) (core : ℕ) → length areas ≤ 8 → core < 2 ^ 32

@@ -86,7 +86,7 @@ fn print_set<D: Disk, K: Sink>(
 }
 
 /// Prints what the journals of the image on a shelf hold. It writes no device, and all that it opened is
-/// closed again.
+/// closed again. After Ok no call of the shelf has failed.
 ///
 /// The first fault in this order counts: opening, reading the journals, writing to `out`, closing.
 pub fn check<H: Shelf, K: Sink>(alloc: Global, shelf: &mut H, out: &mut K) -> Result<(), Fault>
@@ -96,6 +96,7 @@ pub fn check<H: Shelf, K: Sink>(alloc: Global, shelf: &mut H, out: &mut K) -> Re
     ensures output_rose { result ≡ Err faults.Output → Rose (K.faults out.old) (K.faults out.new) }
     ensures unwritten { IfErr result (λ fault. IsEarly fault → out.new ≡ out.old) }
     ensures written { OnErr result ((out.new ≡ out.old) ⊎ ((front rest : List ℕ) × Checks (H.names shelf.old) (front ++ rest) × Took (K.held out.old) (K.held out.new) front)) }
+    ensures quiet { OnOk result (H.faults shelf.new ≡ H.faults shelf.old) }
     ensures cause { IfErr result (λ fault. (fault ≡ faults.Output) ⊎ IsOpenCause (H.names shelf.old) (H.names shelf.new) (H.faults shelf.old) (H.faults shelf.new) fault) }
 {
     let Set { home, mut areas } = open_set(alloc, shelf)?;

@@ -1,6 +1,6 @@
 //! The devices of an image, put back into their shelf in order.
 
-ghost use Rattle.std.specs.Prelude.{◌≡◌, ◌≢◌, ℕ, List, ◌<◌, ◌≤◌, IfErr, IfSome, slice_get, length};
+ghost use Rattle.std.specs.Prelude.{◌≡◌, ◌≢◌, ℕ, List, ◌<◌, ◌≤◌, IfErr, IfSome, OnOk, slice_get, length};
 ghost use Rattle.zj_dev.specs.Fault.{Rose};
 ghost use Rattle.zj_dev.specs.Shelf.{Names, OthersStay, Closes};
 ghost use Rattle.zj_dev.specs.declared.device.Device.{Device};
@@ -18,6 +18,7 @@ fn put_back<H: Shelf>(shelf: &mut H, device: Device, name: &str, d: H::D) -> Res
     ensures closed { Closes (H.D.view d) (H.names shelf.old name.now) (H.names shelf.new name.now) }
     ensures others { OthersStay name.now (H.names shelf.old) (H.names shelf.new) }
     ensures cause { IfErr result (λ fault. (fault ≡ faults.Device device) × Rose (H.faults shelf.old) (H.faults shelf.new)) }
+    ensures quiet { OnOk result (H.faults shelf.new ≡ H.faults shelf.old) }
     ensures no_fewer { H.faults shelf.old ≤ H.faults shelf.new }
 {
     match shelf.close(name, d) {
@@ -34,6 +35,7 @@ fn close_areas<H: Shelf>(shelf: &mut H, areas: Vec<Area<H::D>>) -> Result<(), Fa
     ensures closed { (core : ℕ) → core < length areas.items → IfSome (slice_get areas.items core) (λ area. Closes (H.D.view area.device) (H.names shelf.old (journal_name core)) (H.names shelf.new (journal_name core))) }
     ensures others { (name : List ℕ) → ((core : ℕ) → core < length areas.items → name ≢ journal_name core) → H.names shelf.new name ≡ H.names shelf.old name }
     ensures cause { IfErr result (λ fault. (device : Device) × (fault ≡ faults.Device device) × Rose (H.faults shelf.old) (H.faults shelf.new)) }
+    ensures quiet { OnOk result (H.faults shelf.new ≡ H.faults shelf.old) }
     ensures no_fewer { H.faults shelf.old ≤ H.faults shelf.new }
 {
     let mut closed = Ok(());
@@ -60,6 +62,7 @@ pub(crate) fn close_set<H: Shelf>(
     requires { length areas.items ≤ 8 }
     ensures closed { (before : Names) → IsOut H.D.view before (H.names shelf.old) (H.D.view home.device) areas.items → IsClosed H.D.view before (H.names shelf.new) (H.D.view home.device) areas.items }
     ensures cause { IfErr result (λ fault. (device : Device) × (fault ≡ faults.Device device) × Rose (H.faults shelf.old) (H.faults shelf.new)) }
+    ensures quiet { OnOk result (H.faults shelf.new ≡ H.faults shelf.old) }
     ensures no_fewer { H.faults shelf.old ≤ H.faults shelf.new }
 {
     let closed = put_back(shelf, Device::Home, HOME, home.into_device());

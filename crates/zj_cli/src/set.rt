@@ -45,6 +45,7 @@ fn take_out<H: Shelf>(shelf: &mut H, device: Device, name: &str) -> Result<H::D,
     ensures others { OthersStay name.now (H.names shelf.old) (H.names shelf.new) }
     ensures missing { IfErr result (λ fault. fault ≡ faults.Image (images.Absent device) → IsMissing (H.names shelf.old name.now)) }
     ensures cause { IfErr result (λ fault. (fault ≡ faults.Image (images.Absent device)) ⊎ ((fault ≡ faults.Device device) × Rose (H.faults shelf.old) (H.faults shelf.new))) }
+    ensures quiet { OnOk result (H.faults shelf.new ≡ H.faults shelf.old) }
     ensures no_fewer { H.faults shelf.old ≤ H.faults shelf.new }
 {
     match shelf.open(name) {
@@ -80,6 +81,7 @@ fn open_home<H: Shelf>(alloc: Global, shelf: &mut H) -> Result<Home<H::D>, Fault
     ensures back { OnErr result (IsBack (H.names shelf.old home_name) (H.names shelf.new home_name)) }
     ensures others { OthersStay home_name (H.names shelf.old) (H.names shelf.new) }
     ensures cause { IfErr result (IsOpenCause (H.names shelf.old) (H.names shelf.new) (H.faults shelf.old) (H.faults shelf.new)) }
+    ensures quiet { OnOk result (H.faults shelf.new ≡ H.faults shelf.old) }
     ensures no_fewer { H.faults shelf.old ≤ H.faults shelf.new }
 {
     let d = take_out(shelf, Device::Home, HOME)?;
@@ -106,6 +108,7 @@ fn open_journal<H: Shelf>(
     ensures back { OnErr result (IsBack (H.names shelf.old (journal_name core)) (H.names shelf.new (journal_name core))) }
     ensures others { OthersStay (journal_name core) (H.names shelf.old) (H.names shelf.new) }
     ensures cause { IfErr result (IsJournalCause (H.names shelf.old (journal_name core)) (H.faults shelf.old) (H.faults shelf.new) home.now.told core) }
+    ensures quiet { OnOk result (H.faults shelf.new ≡ H.faults shelf.old) }
     ensures no_fewer { H.faults shelf.old ≤ H.faults shelf.new }
 {
     let device = Device::Journal(core);
@@ -146,6 +149,7 @@ fn open_journals<H: Shelf>(
     ensures left { OnErr result (SomeOut H.D.view (H.names shelf.old) (H.names shelf.new) areas.new.items) }
     ensures few { length areas.new.items ≤ 8 }
     ensures cause { IfErr result (IsJournalsCause (H.names shelf.old) (H.faults shelf.old) (H.faults shelf.new) home.now.told) }
+    ensures quiet { OnOk result (H.faults shelf.new ≡ H.faults shelf.old) }
     ensures no_fewer { H.faults shelf.old ≤ H.faults shelf.new }
 {
     for core in 0..home.sizes().cores() {
@@ -172,6 +176,7 @@ pub(crate) fn open_set<H: Shelf>(alloc: Global, shelf: &mut H) -> Result<Set<H::
     ensures opened { IfOk result (λ set. AllOpened set.home.told set.areas.items) }
     ensures back { OnErr result (AllBack (H.names shelf.old) (H.names shelf.new)) }
     ensures cause { IfErr result (IsOpenCause (H.names shelf.old) (H.names shelf.new) (H.faults shelf.old) (H.faults shelf.new)) }
+    ensures quiet { OnOk result (H.faults shelf.new ≡ H.faults shelf.old) }
     ensures no_fewer { H.faults shelf.old ≤ H.faults shelf.new }
 {
     let home = open_home(alloc, shelf)?;

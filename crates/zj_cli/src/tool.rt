@@ -58,6 +58,7 @@ pub fn zj_tool<H: Shelf, S: Source, K: Sink>(
 
     // Of both.
     ensures back { AllBack (H.names shelf.old) (H.names shelf.new) }
+    ensures quiet { fault_of result ≡ None → H.faults shelf.new ≡ H.faults shelf.old }
     ensures output_rose { fault_of result ≡ Some faults.Output → Rose (K.faults out.old) (K.faults out.new) }
     ensures unwritten { IfSome (fault_of result) (λ fault. IsEarly fault → out.new ≡ out.old) }
 {
@@ -108,6 +109,7 @@ fn run<H: Shelf, S: Source, K: Sink>(
     ensures front { IsCheck (map string_bytes words.now) → result ≡ Err faults.Output → (front rest : List ℕ) × Checks (H.names shelf.old) (front ++ rest) × Took (K.held out.old) (K.held out.new) front }
     ensures unread { IsCheck (map string_bytes words.now) → input.new ≡ input.old }
     ensures back { AllBack (H.names shelf.old) (H.names shelf.new) }
+    ensures quiet { OnOk result (H.faults shelf.new ≡ H.faults shelf.old) }
     ensures output_rose { result ≡ Err faults.Output → Rose (K.faults out.old) (K.faults out.new) }
     ensures unwritten { IfErr result (λ fault. IsEarly fault → out.new ≡ out.old) }
 {

@@ -1,4 +1,4 @@
-use Rattle.std.proofs.Common.{◌<◌, ◌^◌, arith, ap, subst}
+use Rattle.std.proofs.Common.{◌<◌, ◌^◌, ◌∙◌, arith, ap, subst}
 use Rattle.std.proofs.lemmas.Result.{err_from_is_err_and}
 use Rattle.zj_block.specs.Sizes.{Numbers}
 use Rattle.zj_dev.specs.Shelf.{Slot}
@@ -49,5 +49,6 @@ loop-core-preserved g c =
     record {
       opened = rw items (opened_more g.H.D.Disk.view (g.H.Shelf.names c.args.shelf.now) c.args.home.now.told (g.H.Shelf.names c.loop-core.shelf) (g.H.Shelf.names c.open_journal.new.shelf) c.loop-core.core c.loop-core.areas.items c.in_ok-area.area small c.loop-core.invariant.opened
           c.open_journal.ensures.others c.in_ok-area.ensures.lent c.in_ok-area.ensures.area c.in_ok-area.ensures.length);
+      quiet = c.in_ok-area.ensures.quiet ∙ c.loop-core.invariant.quiet;
       no_fewer = omega (arith, c.loop-core.invariant.no_fewer, c.open_journal.ensures.no_fewer);
     }
