@@ -1,6 +1,6 @@
 -- One journal after the other is taken out.
-use Rattle.std.proofs.Common.{◌≡◌, ◌≢◌, ◌⊎◌, ℕ, zero, suc, ◌+◌, ◌-◌, ◌^◌, ◌<◌, ◌≤◌, List, [], ◌∷◌, ◌++◌, length, refl, sym, ap, subst, ◌∙◌, arith, inl, inr}
-use Rattle.std.specs.Prelude.{Option, Some, None, IfSome, MatchOption, slice_get}
+use Rattle.std.proofs.Common.{◌≡◌, ℕ, zero, suc, ◌+◌, ◌^◌, ◌<◌, ◌≤◌, List, [], ◌∷◌, ◌++◌, length, refl, sym, ap, subst, ◌∙◌, arith, inl, inr}
+use Rattle.std.specs.Prelude.{Option, Some, None, MatchOption, slice_get}
 use Rattle.std.proofs.lemmas.Bool.{cases_eq, cases_lt}
 use Rattle.std.proofs.lemmas.Option.{slice_get_past}
 use Rattle.std.proofs.lemmas.List.{length_push}
@@ -11,9 +11,9 @@ use Rattle.zj_home.specs.Super.{Super}
 use Rattle.zj_cli.specs.declared.status.Fault.{Fault}
 use Rattle.zj_cli.specs.declared.status.Fault.TheVariants as faults
 use Rattle.zj_cli.specs.declared.status.ImageFault.TheVariants as images
-use Rattle.zj_cli.specs.Check.{HasJournals, IsJournalCause, IsOpened, OfLength}
+use Rattle.zj_cli.specs.Check.{IsJournalCause, IsOpened, OfLength}
 use Rattle.zj_cli.specs.Opening.{AreOpened, SomeOut}
-use Rattle.zj_cli.specs.Set.{IsBack, IsLent, IsNoJournal, journal_name}
+use Rattle.zj_cli.specs.Set.{IsBack, IsLent, journal_name}
 use Rattle.zj_cli.proofs.SetLemmas.{back_same, journals_differ, rose_since}
 
 -- ---- an element more

@@ -1,14 +1,13 @@
 -- One journal after the other is read.
-use Rattle.std.proofs.Common.{◌≡◌, ◌≢◌, ◌⊎◌, ℕ, zero, suc, ◌+◌, ◌<◌, ◌≤◌, List, [], ◌∷◌, ◌++◌, length, set, get_or, refl, sym, ap, subst, ◌∙◌, arith, inl, inr}
-use Rattle.std.specs.Prelude.{Option, Some, None, IfSome, IsSomeAnd, MatchOption, slice_get}
-use Rattle.std.proofs.lemmas.Bool.{cases_eq, cases_lt}
-use Rattle.std.proofs.lemmas.Option.{slice_get-get_or}
-use Rattle.std.proofs.lemmas.List.{length-set, length_push}
+use Rattle.std.proofs.Common.{◌≡◌, ◌≢◌, ℕ, zero, suc, ◌+◌, ◌<◌, ◌≤◌, List, [], ◌∷◌, ◌++◌, length, set, refl, sym, ap, subst, ◌∙◌, arith, inl, inr}
+use Rattle.std.specs.Prelude.{Option, Some, None, IsSomeAnd, MatchOption, slice_get}
+use Rattle.std.proofs.lemmas.Bool.{cases_eq}
+use Rattle.std.proofs.lemmas.List.{length_push}
 use Rattle.zj_dev.specs.Disk.{DiskView, OnlyReads}
 use Rattle.zj_area.specs.Journal.{AreaView}
 use Rattle.zj_cli.specs.declared.status.Fault.{Fault}
 use Rattle.zj_cli.specs.Scanning.{AreCounted, AreRead, HoldsSome, IsAreaCause, StopsAt}
-use Rattle.zj_cli.proofs.OpenLemmas.{match_option, push_at, push_before}
+use Rattle.zj_cli.proofs.OpenLemmas.{push_at, push_before}
 use Rattle.zj_cli.proofs.SetLemmas.{reads_refl}
 
 -- an element that was set

@@ -1,12 +1,11 @@
 -- Devices that are taken out of a shelf, read, and put back.
-use Rattle.std.proofs.Common.{◌≡◌, ◌≢◌, ◌⊎◌, ℕ, ◌+◌, ◌-◌, ◌^◌, ◌<◌, ◌≤◌, min, List, [], ◌∷◌, slice_index, refl, sym, ap, subst, ◌∙◌, arith, inl, inr}
-use Rattle.std.specs.Prelude.{Option, Some, None, IfSome, codes, decimal, ⊤}
+use Rattle.std.proofs.Common.{◌≡◌, ◌≢◌, ℕ, ◌+◌, ◌^◌, ◌<◌, ◌≤◌, List, [], ◌∷◌, slice_index, refl, sym, ap, subst, ◌∙◌, arith, inl, inr}
+use Rattle.std.specs.Prelude.{IfSome, codes, decimal}
 use Rattle.std.proofs.lemmas.Bool.{cases_lt}
 use Rattle.std.proofs.lemmas.Fmt.{decimal_digit, decimal_injective}
 use Rattle.zj_dev.specs.Fault.{Rose}
 use Rattle.zj_dev.specs.Disk.{Continues, DiskView, OnlyReads}
-use Rattle.zj_dev.specs.Shelf.{Closes, Names, OthersStay, Slot, Untold, Absent, Out, Stands}
-use Rattle.zj_dev.specs.declared.device.Device.TheVariants as devices
+use Rattle.zj_dev.specs.Shelf.{Closes, Names, Slot, Untold, Absent, Out, Stands}
 use Rattle.zj_home.specs.Home.{IsCause}
 use Rattle.zj_home.specs.declared.fault.HomeFault.{HomeFault}
 use Rattle.zj_home.specs.declared.fault.HomeFault.TheVariants as homes

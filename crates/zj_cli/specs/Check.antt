@@ -1,9 +1,8 @@
 -- What `check` prints, and why it refuses an image. A shelf may leave devices and their bytes untold: nothing is said of those.
-use Rattle.std.specs.Prelude.{◌≡◌, ◌≢◌, ◌⊎◌, ℕ, ◌+◌, ◌<◌, ◌≤◌, List, [], ◌∷◌, ◌++◌, length, Option, Some, None, IfSome, slice_get, codes, decimal, ⊤}
+use Rattle.std.specs.Prelude.{◌≡◌, ◌≢◌, ◌⊎◌, ℕ, ◌<◌, List, [], ◌∷◌, ◌++◌, length, Some, None, IfSome, slice_get, codes, decimal, ⊤}
 use Rattle.zj_block.specs.declared.numbers.Tail.{Tail}
 use Rattle.zj_dev.specs.Fault.{Rose}
 use Rattle.zj_dev.specs.Shelf.{Names, Slot, Untold, Absent, Out, Stands}
-use Rattle.zj_dev.specs.Stream.{Took}
 use Rattle.zj_dev.specs.Device.{device_name}
 use Rattle.zj_dev.specs.declared.device.Device.{Device}
 use Rattle.zj_dev.specs.declared.device.Device.TheVariants as devices

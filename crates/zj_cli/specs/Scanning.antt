@@ -1,5 +1,5 @@
 -- The journals of an image as they are read, one after the other.
-use Rattle.std.specs.Prelude.{◌≡◌, ◌⊎◌, ℕ, ◌<◌, List, length, Some, None, IfSome, IsSomeAnd, MatchOption, slice_get, ⊤}
+use Rattle.std.specs.Prelude.{◌≡◌, ◌⊎◌, ℕ, ◌<◌, List, length, None, IfSome, IsSomeAnd, MatchOption, slice_get, ⊤}
 use Rattle.zj_dev.specs.Fault.{Rose}
 use Rattle.zj_dev.specs.Disk.{DiskView, OnlyReads}
 use Rattle.zj_dev.specs.declared.device.Device.TheVariants as devices

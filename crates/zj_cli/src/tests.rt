@@ -1,5 +1,7 @@
 //! Scripts and what the tool answers to them, faults of the streams, and the texts of answers and faults.
 
+ghost use Rattle.zj_dev.specs.MemShelf.{shelf_names};
+
 use super::*;
 use crate::answer::{Answer, write_answer};
 use std::alloc::{AllocError, Global};
@@ -494,5 +496,69 @@ fn tells_a_fault_of_the_output_of_check(rt: HostRuntime) -> Result<(), Fail> {
     let status = zj_tool(alloc, &words, &mut shelf, &mut source, &mut sink);
     assert_eq!(rt; status.fault().copied(), Some(Fault::Output));
     assert!(rt; shelf.take("home").is_some() && shelf.take("j0").is_some());
+    Ok(())
+}
+
+/// A shelf that puts each device back, and then answers that it failed.
+#[derive(Drop)]
+struct StuckShelf {
+    shelf: MemShelf,
+    faults: u64,
+}
+
+impl StuckShelf {
+    ghost use Rattle.std.specs.Prelude.{◌≡◌, ◌≤◌, IsErr};
+    ghost use Rattle.zj_dev.specs.Fault.{Rose};
+
+    fn fails<T>(&mut self) -> Result<T, ShelfFailed>
+        ensures failed { IsErr result }
+        ensures rose { Rose self.old.faults self.new.faults }
+        ensures no_fewer { self.old.faults ≤ self.new.faults }
+        ensures same { self.new.shelf ≡ self.old.shelf }
+    {
+        self.faults = self.faults.saturating_add(1);
+        Err(ShelfFailed)
+    }
+}
+
+impl Shelf for StuckShelf {
+    type D = MemDisk;
+
+    ghost names = { λ shelf. shelf_names shelf.shelf };
+
+    ghost faults = { λ shelf. shelf.faults };
+
+    fn open(&mut self, name: &str) -> Result<Option<MemDisk>, ShelfFailed> {
+        match self.shelf.open(name) {
+            Ok(found) => Ok(found),
+            Err(_) => self.fails(),
+        }
+    }
+
+    fn create(&mut self, name: &str, len: u64) -> Result<Option<MemDisk>, ShelfFailed> {
+        match self.shelf.create(name, len) {
+            Ok(made) => Ok(made),
+            Err(_) => self.fails(),
+        }
+    }
+
+    fn close(&mut self, name: &str, d: MemDisk) -> Result<(), ShelfFailed> {
+        let _ = self.shelf.close(name, d);
+        self.fails()
+    }
+}
+
+#[test]
+fn tells_a_fault_of_closing(rt: HostRuntime) -> Result<(), Fail> {
+    let alloc = rt.alloc();
+    let home = home_image(&rt, alloc, 1, 50752)?;
+    let journal = journal(alloc, &RECORD)?;
+    let shelf = shelf_of(alloc, &[("home", &home, &[]), ("j0", &journal, &[])])?;
+    let mut stuck = StuckShelf { shelf, faults: 0 };
+    let (status, written) = checked(alloc, &mut stuck)?;
+    let device = Device::Home;
+    assert_eq!(rt; status.fault().copied(), Some(Fault::Device { device }));
+    assert_eq!(rt; written.as_slice(), "j0 from 0 found 1 kept 1\n".as_bytes());
+    assert_eq!(rt; stuck.faults, 2);
     Ok(())
 }

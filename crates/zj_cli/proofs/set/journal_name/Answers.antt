@@ -1,4 +1,4 @@
-use Rattle.std.proofs.Common.{◌≡◌, arith}
+use Rattle.std.proofs.Common.{arith}
 use Rattle.zj_cli.proofs.SetLemmas.{name_of}
 use Rattle.zj_cli.proofs.set.journal_name.Goals as goal
 

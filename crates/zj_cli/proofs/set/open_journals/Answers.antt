@@ -3,7 +3,6 @@ use Rattle.std.proofs.lemmas.Result.{err_from_is_err_and}
 use Rattle.zj_block.specs.Sizes.{Numbers}
 use Rattle.zj_dev.specs.Shelf.{Slot}
 use Rattle.zj_cli.specs.Check.{IsJournalCause}
-use Rattle.zj_cli.specs.Set.{journal_name}
 use Rattle.zj_cli.proofs.OpenLemmas.{journal_cause_since, next_slot, opened_more, some_out, some_out_now}
 use Rattle.zj_cli.proofs.set.open_journals.Goals as goal
 
