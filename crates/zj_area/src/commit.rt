@@ -19,22 +19,22 @@ const CLOSED: u8 = 0;
 
 /// Lays a record at a place: all of it but its gate, and then the closed gate of the record that will
 /// follow it. Both outlast a crash once it answers Ok.
-pub fn lay_at<D: Disk>(d: &mut D, place: u64, record: &[u8], next: u64) -> Result<(), DiskFailed>
+pub fn lay_at<D: Disk>(d: &mut D, place: u64, spelled: &[u8], next: u64) -> Result<(), DiskFailed>
     requires is_disk { IsDisk (D.view d.old) }
     requires small { place < 2 ^ 63 }
-    requires some { 1 ≤ length record.now }
-    requires within { place + length record.now ≤ (D.view d.old).size }
+    requires some { 1 ≤ length spelled.now }
+    requires within { place + length spelled.now ≤ (D.view d.old).size }
     requires next_within { next + 1 ≤ (D.view d.old).size }
-    ensures bytes { OnOk result ((D.view d.new).bytes ≡ option_map (λ bytes. replaced (replaced bytes (place + 1) (drop 1 record.now)) next (0 ∷ [])) (D.view d.old).bytes) }
+    ensures bytes { OnOk result ((D.view d.new).bytes ≡ option_map (λ bytes. replaced (replaced bytes (place + 1) (drop 1 spelled.now)) next (0 ∷ [])) (D.view d.old).bytes) }
     ensures settled { OnOk result (IsSettled (D.view d.new)) }
-    ensures moments { EachImageSince (D.view d.old).calls (D.view d.new) (TornByLay place (length record.now) next (D.view d.old)) }
+    ensures moments { EachImageSince (D.view d.old).calls (D.view d.new) (TornByLay place (length spelled.now) next (D.view d.old)) }
     ensures continues { Continues (D.view d.old) (D.view d.new) }
     ensures is_disk { IsDisk (D.view d.new) }
     ensures three { OnOk result ((D.view d.new).calls ≡ (D.view d.old).calls + 3) }
     ensures no_more { (D.view d.new).calls ≤ (D.view d.old).calls + 3 }
     ensures cause { OnErr result (Rose (D.view d.old).faults (D.view d.new).faults) }
 {
-    write_at(d, place + 1, &record[1..])?;
+    write_at(d, place + 1, &spelled[1..])?;
     write_at(d, next, &[CLOSED])?;
     sync(d)
 }

@@ -9,17 +9,17 @@ body_len bytes = let rest = length-drop 1 bytes in length-take-le (length bytes 
 
 pub returns-in_err-write_at-clause-moments : goal.returns-in_err-write_at-clause-moments
 returns-in_err-write_at-clause-moments g c =
-    let r = c.args.record.now in
+    let r = c.args.spelled.now in
     lay_body c.args.place (length r) c.args.next _ _ (length (take (length r - 1) (drop 1 r))) (body_len r) c.write_at.ensures.goes_on c.write_at.ensures.torn
 
 pub returns-in_err-write_at-2-clause-moments : goal.returns-in_err-write_at-2-clause-moments
 returns-in_err-write_at-2-clause-moments g c =
-    let r = c.args.record.now in
+    let r = c.args.spelled.now in
     lay_gate c.args.place (length r) c.args.next _ (g.D.Disk.view c.write_at.new.d) _ (length (take (length r - 1) (drop 1 r))) (body_len r) c.write_at.ensures.goes_on c.write_at.ensures.torn
     c.write_at-2.ensures.goes_on c.write_at-2.ensures.torn
 
 pub returns-clause-moments : goal.returns-clause-moments
 returns-clause-moments g c =
-    let r = c.args.record.now in
+    let r = c.args.spelled.now in
     lay_sync c.args.place (length r) c.args.next _ (g.D.Disk.view c.write_at.new.d) (g.D.Disk.view c.write_at-2.new.d) _ (length (take (length r - 1) (drop 1 r))) (body_len r) c.write_at.ensures.goes_on c.write_at.ensures.torn
     c.write_at-2.ensures.goes_on c.write_at-2.ensures.torn c.sync.ensures.goes_on c.sync.ensures.images
