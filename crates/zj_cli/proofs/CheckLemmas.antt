@@ -1,6 +1,6 @@
 -- A set of devices that was opened, read and closed.
-use Rattle.std.proofs.Common.{◌≡◌, ◌≢◌, ◌⊎◌, ℕ, ◌^◌, ◌<◌, ◌≤◌, List, ◌++◌, length, take, drop, refl, sym, subst, ◌∙◌, arith, inl, inr}
-use Rattle.std.specs.Prelude.{Option, Some, None, IfSome, IsSomeAnd, MatchOption, OnErr, OnOk, Result, Ok, Err, slice_get}
+use Rattle.std.proofs.Common.{◌≡◌, ◌≢◌, ◌⊎◌, ℕ, ◌^◌, ◌<◌, ◌≤◌, List, ◌++◌, length, take, drop, refl, sym, ap, subst, ◌∙◌, arith, inl, inr}
+use Rattle.std.specs.Prelude.{Option, Some, None, IfErr, IfSome, IsSomeAnd, MatchOption, OnErr, OnOk, Result, Ok, Err, slice_get}
 use Rattle.std.proofs.lemmas.List.{take_at}
 use Rattle.std.proofs.lemmas.Option.{slice_get_within}
 use Rattle.zj_dev.specs.Fault.{Rose}
@@ -18,7 +18,7 @@ use Rattle.zj_cli.specs.declared.status.Fault.{Fault}
 use Rattle.zj_cli.specs.declared.status.Fault.TheVariants as faults
 use Rattle.zj_cli.specs.declared.status.ImageFault.TheVariants as images
 use Rattle.zj_cli.specs.Check.{AllHold, Checks, HasHome, HasJournals, IsDeviceCause, IsImageCause, IsJournalCause, IsMissing, IsOpenCause, IsOpened, JournalHolds, OfDevice, OfJournal, OfLength, journal_text}
-use Rattle.zj_cli.specs.Opening.{AllOpened, AreOpened, IsJournalsCause, SomeOut}
+use Rattle.zj_cli.specs.Opening.{AllOpened, AreOpened, IsJournalsCause, IsOfSet, SomeOut}
 use Rattle.zj_cli.specs.Scanning.{AreCounted, AreaHolds, AreRead, HoldsSome, IsAreaCause, IsReadCause, Prints}
 use Rattle.zj_cli.specs.Set.{AllBack, IsBack, IsClosed, IsLent, IsNoJournal, IsOut, IsPutBack, home_name, journal_name}
 use Rattle.zj_cli.proofs.OpenLemmas.{match_option}
@@ -78,6 +78,11 @@ module _ (before mid : Names) (stay : OthersStay home_name before mid) where
           subst (λ (d : Device). IsImageCause before (images.Sizes d found expected)) (sym is.0)
           (super, home, cause.1, journals_before super cause.0 cause.2, subst (λ (s : Slot). OfLength s (λ len. (len ≡ found) × (expected ≡ super.sizes.area) × (found ≢ expected))) (same_journal cause.0) is.1)
 
+      failed : (device : Device) → (device ≡ devices.Journal cause.0) × Rose f1 f2 → IsDeviceCause before now f0 f3 device
+      failed device is =
+          subst (λ (d : Device). IsDeviceCause before now f0 f3 d) (sym is.0)
+          (super, home, cause.1, inl (journals_before super cause.0 cause.2, rose_until f0 f2 f3 (rose_since f0 f1 f2 le is.1) le'))
+
       by_fault : (fault : Fault) → IsJournalCause (mid (journal_name cause.0)) f1 f2 super cause.0 fault → IsOpenCause before now f0 f3 fault
       by_fault (faults.Image (images.Absent device)) is = missing device is
       by_fault (faults.Image (images.Sizes device found expected)) is = long device found expected is
@@ -85,7 +90,7 @@ module _ (before mid : Names) (stay : OthersStay home_name before mid) where
       by_fault (faults.Image (images.Version found)) is = absurd is
       by_fault (faults.Image (images.Damaged device at found expected)) is = absurd is
       by_fault (faults.Image (images.Unbuilt device)) is = absurd is
-      by_fault (faults.Device device) is = inl (rose_until f0 f2 f3 (rose_since f0 f1 f2 le is.1) le')
+      by_fault (faults.Device device) is = failed device is
       by_fault faults.Memory is = tt
       by_fault faults.Words is = is
       by_fault (faults.Script kind line column) is = is
@@ -214,7 +219,7 @@ module _ {D : Type 0} (view : D → DiskView) (before mid now : Names) (home hom
           let lent : IsLent (before (journal_name core)) (mid (journal_name core)) (view a.device) = rw here at (out.journals core fits) in
           let put : IsPutBack (before (journal_name core)) (now (journal_name core)) (view b.device) = rw there at (closed.journals core fits) in
           subst (λ (d : Device). IsDeviceCause before now f f' d) (sym e)
-          (inr (rose_put (before (journal_name core)) (now (journal_name core)) (view a.device) (view b.device) put (lent_faults (before (journal_name core)) (mid (journal_name core)) (view a.device) lent) rose))
+          (super, has_home, (fits_at core a here).1, inr (has_journals, all_hold stops.0 core stops.1.counted, rose_put (before (journal_name core)) (now (journal_name core)) (view a.device) (view b.device) put (lent_faults (before (journal_name core)) (mid (journal_name core)) (view a.device) lent) rose))
 
       damaged : (device : Device) (at found expected : ℕ) (a : AreaView D) → slice_get old stops.1.core ≡ Some a → device ≡ devices.Journal stops.1.core → IfSome (view a.device).bytes (λ image. IsDamaged a.sizes a.core image a.tail at found expected)
           → IsImageCause before (images.Damaged device at found expected)
@@ -241,6 +246,14 @@ module _ {D : Type 0} (view : D → DiskView) (before mid now : Names) (home hom
       at None o' e e' h = absurd h
       at (Some a) None e e' h = absurd h
       at (Some a) (Some b) e e' h = by_fault fault a b e e' h
+
+  -- and why one of them was not closed
+  pub close_cause : (count old mid_count new_count : ℕ) (fault : Fault) → count ≡ super.sizes.cores → old ≤ mid_count → IsOfSet count fault × Rose mid_count new_count → IsOpenCause before now old new_count fault
+  close_cause count f f1 f2 fault many le (inl is, rose) = subst (λ (x : Fault). IsOpenCause before now f f2 x) (sym is) (inl (rose_since f f1 f2 le rose))
+  close_cause count f f1 f2 fault many le (inr is, rose) =
+      let below : is.0 < super.sizes.cores = omega (arith, is.1, many) in
+      subst (λ (x : Fault). IsOpenCause before now f f2 x) (sym is.2)
+      (super, has_home, below, inl (λ core before. has_journals core (omega (arith, before, below)), rose_since f f1 f2 le rose))
 
 -- what was out, was read and is closed
 pub closes : {D : Type 0} (view : D → DiskView) (before mid now : Names) (home : DiskView) (items old new : List (AreaView D)) (len : ℕ) → IsOut view before mid home items → old ≡ items → AreRead view old new → length new ≡ len
@@ -271,3 +284,17 @@ is_output faults.Input = inr (λ e. cc)
 
 pub same_fault : (a b : Fault) → ◌≡◌ {A = Result (Unit {0}) Fault} (Err a) (Err b) → a ≡ b
 same_fault a b e = cc
+
+-- as many are closed as were read
+pub as_many : {D : Type 0} (items new : List (AreaView D)) (len : ℕ) → length new ≡ len → length (take len (new ++ drop (length new) items)) ≡ len
+as_many items new len many =
+    let whole : take len (new ++ drop (length new) items) ≡ new = take_at new (drop (length new) items) len many in
+    ap length whole ∙ many
+
+-- what is so of each fault
+pub each_fault : {T : Type 0} (result : Result T Fault) (P Q : Fault → Type 0) → ((fault : Fault) → P fault → Q fault) → IfErr result P → IfErr result Q
+each_fault (Ok x) P Q implies cause = tt
+each_fault (Err fault) P Q implies cause = implies fault cause
+
+pub of_err : {T : Type 0} (result : Result T Fault) (P : Fault → Type 0) (fault : Fault) → IfErr result P → result ≡ Err fault → P fault
+of_err result P fault cause e = rw e at cause

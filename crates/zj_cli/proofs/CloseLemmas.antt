@@ -100,20 +100,23 @@ more view areas count area old now new name device few is_name is_device at belo
       kept_more count old now new kept others,
     )
 
+-- each fault has a property, and the count of faults rose
+abbrev pub HasCause : {T : Type 0} → (Fault → Type 0) → Result T Fault → ℕ → ℕ → Type 0
+HasCause P result old now = IfErr result (λ fault. P fault × Rose old now)
+
+pub weaker : {T : Type 0} (P Q : Fault → Type 0) (result : Result T Fault) (old now : ℕ) → ((fault : Fault) → P fault → Q fault) → HasCause P result old now → HasCause Q result old now
+weaker P Q (Ok x) old now implies cause = tt
+weaker P Q (Err fault) old now implies cause = (implies fault cause.0, cause.1)
+
+first_of : {T : Type 0} (P : Fault → Type 0) (first one : Result T Fault) (old now new : ℕ) → HasCause P first old now → old ≤ now → now ≤ new → HasCause P one now new → HasCause P (result_and first one) old new
+first_of P (Ok x) (Ok y) old now new was no_fewer rises cause = tt
+first_of P (Ok x) (Err fault) old now new was no_fewer rises cause = (cause.0, omega (arith, cause.1))
+first_of P (Err fault) one old now new was no_fewer rises cause = (was.0, omega (arith, was.1))
+
 -- the first fault counts
-abbrev pub HasCause : {T : Type 0} → Result T Fault → ℕ → ℕ → Type 0
-HasCause result old now = IfErr result (λ fault. (device : Device) × (fault ≡ faults.Device device) × Rose old now)
-
-pub first_of : {T : Type 0} (first one : Result T Fault) (device : Device) (old now new : ℕ) → HasCause first old now → old ≤ now → now ≤ new
-    → IfErr one (λ fault. (fault ≡ faults.Device device) × Rose now new) → HasCause (result_and first one) old new
-first_of (Ok x) (Ok y) device old now new was no_fewer rises cause = tt
-first_of (Ok x) (Err fault) device old now new was no_fewer rises cause = (device, cause.0, omega (arith, cause.1))
-first_of (Err fault) one device old now new was no_fewer rises cause = (was.0, was.1, omega (arith, was.2))
-
-pub first_fault : {T : Type 0} (first one both : Result T Fault) (device : Device) (old now new : ℕ) → both ≡ result_and first one → HasCause first old now → old ≤ now → now ≤ new
-    → IfErr one (λ fault. (fault ≡ faults.Device device) × Rose now new) → HasCause both old new
-first_fault first one both device old now new is was no_fewer rises cause =
-    subst (λ r. HasCause r old new) (sym is) (first_of first one device old now new was no_fewer rises cause)
+pub first_fault : {T : Type 0} (P : Fault → Type 0) (first one both : Result T Fault) (old now new : ℕ) → both ≡ result_and first one → HasCause P first old now → old ≤ now → now ≤ new → HasCause P one now new → HasCause P both old new
+first_fault P first one both old now new is was no_fewer rises cause =
+    subst (λ r. HasCause P r old new) (sym is) (first_of P first one old now new was no_fewer rises cause)
 
 quiet_of : {T : Type 0} (first one : Result T Fault) (old now new : ℕ) → OnOk first (now ≡ old) → OnOk one (new ≡ now) → OnOk (result_and first one) (new ≡ old)
 quiet_of (Ok x) (Ok y) old now new was is = is ∙ was

@@ -3,7 +3,6 @@ use Rattle.std.specs.Prelude.{◌≡◌, ◌≢◌, ◌⊎◌, ℕ, ◌<◌, Lis
 use Rattle.zj_block.specs.declared.numbers.Tail.{Tail}
 use Rattle.zj_dev.specs.Fault.{Rose}
 use Rattle.zj_dev.specs.Shelf.{Names, Slot, Untold, Absent, Out, Stands}
-use Rattle.zj_dev.specs.Device.{device_name}
 use Rattle.zj_dev.specs.declared.device.Device.{Device}
 use Rattle.zj_dev.specs.declared.device.Device.TheVariants as devices
 use Rattle.zj_home.specs.Super.{Super, image_fault, super_of}
@@ -91,9 +90,12 @@ RoseUnder (Stands old) Out = ⊥
 RoseUnder Absent now = ⊥
 RoseUnder Out now = ⊥
 
--- Why a device failed: its count of faults rose, or the shelf's.
+-- Why a device failed: the shelf failed to open or to close it, and the shelf's count of faults rose; or it failed to be
+-- read, and its own count rose. What comes before it is in order.
 abbrev pub IsDeviceCause : Names → Names → ℕ → ℕ → Device → Type 0
-IsDeviceCause before now old new device = Rose old new ⊎ RoseUnder (before (device_name device)) (now (device_name device))
+IsDeviceCause before now old new devices.Home = Rose old new ⊎ RoseUnder (before home_name) (now home_name)
+IsDeviceCause before now old new (devices.Journal core) = (super : Super) × HasHome before super × (core < super.sizes.cores) × ((HasJournals before super core × Rose old new)
+    ⊎ (HasJournals before super super.sizes.cores × AllHold before super core × RoseUnder (before (journal_name core)) (now (journal_name core))))
 
 -- the line of a core's journal: `jC from NUMBER found COUNT kept COUNT`
 abbrev pub journal_text : ℕ → ℕ → ℕ → ℕ → List ℕ

@@ -1,10 +1,12 @@
 -- The journals of an image as they are taken out of their shelf, one after the other.
-use Rattle.std.specs.Prelude.{◌≡◌, ℕ, ◌^◌, ◌<◌, ◌≤◌, List, length, IfSome, MatchOption, slice_get}
+use Rattle.std.specs.Prelude.{◌≡◌, ◌⊎◌, ℕ, ◌^◌, ◌<◌, ◌≤◌, List, length, IfSome, MatchOption, slice_get}
 use Rattle.zj_dev.specs.Disk.{DiskView}
 use Rattle.zj_dev.specs.Shelf.{Names}
+use Rattle.zj_dev.specs.declared.device.Device.TheVariants as devices
 use Rattle.zj_area.specs.Journal.{AreaView}
 use Rattle.zj_home.specs.Super.{Super}
 use Rattle.zj_cli.specs.declared.status.Fault.{Fault}
+use Rattle.zj_cli.specs.declared.status.Fault.TheVariants as faults
 use Rattle.zj_cli.specs.Check.{HasJournals, IsJournalCause, IsOpened}
 use Rattle.zj_cli.specs.Set.{IsBack, IsLent, IsNoJournal, journal_name}
 
@@ -30,3 +32,11 @@ pub record AllOpened {D : Type 0} (super : Super) (areas : List (AreaView D)) : 
   pub many : length areas ≡ super.sizes.cores
   pub few : length areas ≤ 8
   pub opened : (core : ℕ) → core < 2 ^ 32 → IfSome (slice_get areas core) (IsOpened super core)
+
+-- a fault of the journal of one of the first cores, so many
+abbrev pub IsOfJournal : ℕ → Fault → Type 0
+IsOfJournal count fault = (core : ℕ) × (core < count) × (fault ≡ faults.Device (devices.Journal core))
+
+-- a fault of home, or of one of those journals
+abbrev pub IsOfSet : ℕ → Fault → Type 0
+IsOfSet count fault = (fault ≡ faults.Device devices.Home) ⊎ IsOfJournal count fault

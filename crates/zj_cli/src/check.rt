@@ -3,6 +3,7 @@
 ghost use Rattle.std.specs.Prelude.{◌≡◌, ◌≢◌, ◌≤◌, ◌⊎◌, List, ℕ, ◌++◌, IfOk, IfErr, OnOk, OnErr, Err, Some, ◌<◌, length, slice_get, string_bytes};
 ghost use Rattle.zj_dev.specs.Fault.{Rose};
 ghost use Rattle.zj_dev.specs.Stream.{Took};
+ghost use Rattle.zj_dev.specs.declared.device.Device.{Device};
 ghost use Rattle.zj_cli.specs.declared.status.Fault.TheVariants as faults;
 ghost use Rattle.zj_cli.specs.Check.{Checks, IsEarly, IsOpenCause, journal_text};
 ghost use Rattle.zj_cli.specs.Opening.{AllOpened};
@@ -95,7 +96,7 @@ pub fn check<H: Shelf, K: Sink>(alloc: Global, shelf: &mut H, out: &mut K) -> Re
     ensures output { result ≡ Err faults.Output → (front rest : List ℕ) × Checks (H.names shelf.old) (front ++ rest) × Took (K.held out.old) (K.held out.new) front }
     ensures output_rose { result ≡ Err faults.Output → Rose (K.faults out.old) (K.faults out.new) }
     ensures unwritten { IfErr result (λ fault. IsEarly fault → out.new ≡ out.old) }
-    ensures written { OnErr result ((out.new ≡ out.old) ⊎ ((front rest : List ℕ) × Checks (H.names shelf.old) (front ++ rest) × Took (K.held out.old) (K.held out.new) front)) }
+    ensures closing { (device : Device) → result ≡ Err (faults.Device device) → (out.new ≡ out.old) ⊎ (Rose (H.faults shelf.old) (H.faults shelf.new) × ((text : List ℕ) × Checks (H.names shelf.old) text × Took (K.held out.old) (K.held out.new) text)) }
     ensures quiet { OnOk result (H.faults shelf.new ≡ H.faults shelf.old) }
     ensures cause { IfErr result (λ fault. (fault ≡ faults.Output) ⊎ IsOpenCause (H.names shelf.old) (H.names shelf.new) (H.faults shelf.old) (H.faults shelf.new) fault) }
 {

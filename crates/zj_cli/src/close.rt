@@ -3,8 +3,8 @@
 ghost use Rattle.std.specs.Prelude.{◌≡◌, ◌≢◌, ℕ, List, ◌<◌, ◌≤◌, IfErr, IfSome, OnOk, slice_get, length};
 ghost use Rattle.zj_dev.specs.Fault.{Rose};
 ghost use Rattle.zj_dev.specs.Shelf.{Names, OthersStay, Closes};
-ghost use Rattle.zj_dev.specs.declared.device.Device.{Device};
 ghost use Rattle.zj_cli.specs.declared.status.Fault.TheVariants as faults;
+ghost use Rattle.zj_cli.specs.Opening.{IsOfJournal, IsOfSet};
 ghost use Rattle.zj_cli.specs.Set.{IsClosed, IsOut, journal_name};
 
 use crate::set::{HOME, journal_name};
@@ -34,7 +34,7 @@ fn close_areas<H: Shelf>(shelf: &mut H, areas: Vec<Area<H::D>>) -> Result<(), Fa
     requires { length areas.items ≤ 8 }
     ensures closed { (core : ℕ) → core < length areas.items → IfSome (slice_get areas.items core) (λ area. Closes (H.D.view area.device) (H.names shelf.old (journal_name core)) (H.names shelf.new (journal_name core))) }
     ensures others { (name : List ℕ) → ((core : ℕ) → core < length areas.items → name ≢ journal_name core) → H.names shelf.new name ≡ H.names shelf.old name }
-    ensures cause { IfErr result (λ fault. (device : Device) × (fault ≡ faults.Device device) × Rose (H.faults shelf.old) (H.faults shelf.new)) }
+    ensures cause { IfErr result (λ fault. IsOfJournal (length areas.items) fault × Rose (H.faults shelf.old) (H.faults shelf.new)) }
     ensures quiet { OnOk result (H.faults shelf.new ≡ H.faults shelf.old) }
     ensures no_fewer { H.faults shelf.old ≤ H.faults shelf.new }
 {
@@ -61,7 +61,7 @@ pub(crate) fn close_set<H: Shelf>(
 ) -> Result<(), Fault>
     requires { length areas.items ≤ 8 }
     ensures closed { (before : Names) → IsOut H.D.view before (H.names shelf.old) (H.D.view home.device) areas.items → IsClosed H.D.view before (H.names shelf.new) (H.D.view home.device) areas.items }
-    ensures cause { IfErr result (λ fault. (device : Device) × (fault ≡ faults.Device device) × Rose (H.faults shelf.old) (H.faults shelf.new)) }
+    ensures cause { IfErr result (λ fault. IsOfSet (length areas.items) fault × Rose (H.faults shelf.old) (H.faults shelf.new)) }
     ensures quiet { OnOk result (H.faults shelf.new ≡ H.faults shelf.old) }
     ensures no_fewer { H.faults shelf.old ≤ H.faults shelf.new }
 {

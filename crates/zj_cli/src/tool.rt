@@ -54,6 +54,7 @@ pub fn zj_tool<H: Shelf, S: Source, K: Sink>(
     ensures image { (fault : ImageFault) → fault_of result ≡ Some (faults.Image fault) → IsImageCause (H.names shelf.old) fault }
     ensures device { (device : Device) → fault_of result ≡ Some (faults.Device device) → IsDeviceCause (H.names shelf.old) (H.names shelf.new) (H.faults shelf.old) (H.faults shelf.new) device }
     ensures front { IsCheck (map string_bytes words.now) → fault_of result ≡ Some faults.Output → (front rest : List ℕ) × Checks (H.names shelf.old) (front ++ rest) × Took (K.held out.old) (K.held out.new) front }
+    ensures closing { (device : Device) → fault_of result ≡ Some (faults.Device device) → (out.new ≡ out.old) ⊎ (Rose (H.faults shelf.old) (H.faults shelf.new) × ((text : List ℕ) × Checks (H.names shelf.old) text × Took (K.held out.old) (K.held out.new) text)) }
     ensures unread { IsCheck (map string_bytes words.now) → input.new ≡ input.old }
 
     // Of both.
@@ -107,6 +108,7 @@ fn run<H: Shelf, S: Source, K: Sink>(
     ensures image { (fault : ImageFault) → result ≡ Err (faults.Image fault) → IsImageCause (H.names shelf.old) fault }
     ensures device { (device : Device) → result ≡ Err (faults.Device device) → IsDeviceCause (H.names shelf.old) (H.names shelf.new) (H.faults shelf.old) (H.faults shelf.new) device }
     ensures front { IsCheck (map string_bytes words.now) → result ≡ Err faults.Output → (front rest : List ℕ) × Checks (H.names shelf.old) (front ++ rest) × Took (K.held out.old) (K.held out.new) front }
+    ensures closing { (device : Device) → result ≡ Err (faults.Device device) → (out.new ≡ out.old) ⊎ (Rose (H.faults shelf.old) (H.faults shelf.new) × ((text : List ℕ) × Checks (H.names shelf.old) text × Took (K.held out.old) (K.held out.new) text)) }
     ensures unread { IsCheck (map string_bytes words.now) → input.new ≡ input.old }
     ensures back { AllBack (H.names shelf.old) (H.names shelf.new) }
     ensures quiet { OnOk result (H.faults shelf.new ≡ H.faults shelf.old) }

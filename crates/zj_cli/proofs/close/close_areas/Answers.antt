@@ -1,6 +1,9 @@
-use Rattle.std.proofs.Common.{◌<◌, length, ◌∙◌, arith}
+use Rattle.std.proofs.Common.{◌≡◌, ◌<◌, length, ◌∙◌, arith}
 use Rattle.std.specs.Vec.Iter.{into_iter_items}
-use Rattle.zj_cli.proofs.CloseLemmas.{all_quiet, at_drop, first_fault, more}
+use Rattle.zj_dev.specs.declared.device.Device.TheVariants as devices
+use Rattle.zj_cli.specs.declared.status.Fault.TheVariants as faults
+use Rattle.zj_cli.specs.Opening.{IsOfJournal}
+use Rattle.zj_cli.proofs.CloseLemmas.{all_quiet, at_drop, first_fault, more, weaker}
 use Rattle.zj_cli.proofs.close.close_areas.Goals as goal
 
 pub loop-area-preserved : goal.loop-area-preserved
@@ -22,8 +25,9 @@ loop-area-preserved g c =
       count = omega arith;
       below = now.0;
       others = now.1;
-      cause = first_fault at.closed c.put_back-one.result c.and-closed.result _ (g.H.Shelf.faults c.args.shelf.now) (g.H.Shelf.faults at.shelf) (g.H.Shelf.faults c.put_back-one.new.shelf)
-          c.and-closed.ensures inv.cause inv.no_fewer put.no_fewer put.cause;
+      cause = first_fault (IsOfJournal (length c.args.areas.items)) at.closed c.put_back-one.result c.and-closed.result (g.H.Shelf.faults c.args.shelf.now) (g.H.Shelf.faults at.shelf) (g.H.Shelf.faults c.put_back-one.new.shelf)
+          c.and-closed.ensures inv.cause inv.no_fewer put.no_fewer
+          (weaker (λ fault. fault ≡ faults.Device (devices.Journal at.core)) (IsOfJournal (length c.args.areas.items)) c.put_back-one.result _ _ (λ fault e. (at.core, within, e)) put.cause);
       quiet = all_quiet at.closed c.put_back-one.result c.and-closed.result (g.H.Shelf.faults c.args.shelf.now) (g.H.Shelf.faults at.shelf) (g.H.Shelf.faults c.put_back-one.new.shelf)
           c.and-closed.ensures inv.quiet put.quiet;
       no_fewer = omega (arith, inv.no_fewer, put.no_fewer);

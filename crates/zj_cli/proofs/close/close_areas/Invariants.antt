@@ -1,8 +1,7 @@
 use Rattle.std.proofs.Common.{◌≡◌, ◌+◌, ◌≤◌, IfErr, OnOk, length, drop}
 use Rattle.std.specs.Vec.Iter.{into_iter_items, into_iter_len}
 use Rattle.zj_dev.specs.Fault.{Rose}
-use Rattle.zj_dev.specs.declared.device.Device.{Device}
-use Rattle.zj_cli.specs.declared.status.Fault.TheVariants as faults
+use Rattle.zj_cli.specs.Opening.{IsOfJournal}
 use Rattle.zj_cli.proofs.CloseLemmas.{ClosedBelow, KeptBut}
 use Rattle.zj_cli.proofs.close.close_areas.Given as goal
 
@@ -13,7 +12,7 @@ invariant-loop-area g l = record {
   count : l.core + into_iter_len l.left ≡ length l.fn.areas.items;
   below : ClosedBelow g.H.D.Disk.view l.fn.areas.items l.core (g.H.Shelf.names l.fn.shelf) (g.H.Shelf.names l.shelf);
   others : KeptBut l.core (g.H.Shelf.names l.fn.shelf) (g.H.Shelf.names l.shelf);
-  cause : IfErr l.closed (λ fault. (device : Device) × (fault ≡ faults.Device device) × Rose (g.H.Shelf.faults l.fn.shelf) (g.H.Shelf.faults l.shelf));
+  cause : IfErr l.closed (λ fault. IsOfJournal (length l.fn.areas.items) fault × Rose (g.H.Shelf.faults l.fn.shelf) (g.H.Shelf.faults l.shelf));
   quiet : OnOk l.closed (g.H.Shelf.faults l.shelf ≡ g.H.Shelf.faults l.fn.shelf);
   no_fewer : g.H.Shelf.faults l.fn.shelf ≤ g.H.Shelf.faults l.shelf;
 }

@@ -1,7 +1,10 @@
-use Rattle.std.proofs.Common.{subst}
+use Rattle.std.proofs.Common.{◌≡◌, length, subst, inl, inr}
 use Rattle.zj_dev.specs.Shelf.{Closes}
 use Rattle.zj_cli.specs.Set.{home_name}
-use Rattle.zj_cli.proofs.CloseLemmas.{closed_all}
+use Rattle.zj_dev.specs.declared.device.Device.TheVariants as devices
+use Rattle.zj_cli.specs.declared.status.Fault.TheVariants as faults
+use Rattle.zj_cli.specs.Opening.{IsOfJournal, IsOfSet}
+use Rattle.zj_cli.proofs.CloseLemmas.{closed_all, first_fault, weaker}
 use Rattle.zj_cli.proofs.close.close_set.Goals as goal
 
 pub returns-clause-closed : goal.returns-clause-closed
@@ -12,3 +15,12 @@ returns-clause-closed g c before out =
     closed_all g.H.D.Disk.view before old mid new (g.H.D.Disk.view c.args.home.device) c.args.areas.items c.requires out
     (subst (λ d. Closes (g.H.D.Disk.view d) (old home_name) (mid home_name)) c.into_device.ensures c.put_back-closed.ensures.closed)
     c.put_back-closed.ensures.others c.close_areas.ensures.closed c.close_areas.ensures.others
+
+pub returns-clause-cause : goal.returns-clause-cause
+returns-clause-cause g c =
+    let count = length c.args.areas.items in
+    first_fault (IsOfSet count) c.put_back-closed.result c.close_areas.result c.and.result (g.H.Shelf.faults c.args.shelf.now) (g.H.Shelf.faults c.put_back-closed.new.shelf) (g.H.Shelf.faults c.close_areas.new.shelf)
+    c.and.ensures
+    (weaker (λ fault. fault ≡ faults.Device devices.Home) (IsOfSet count) c.put_back-closed.result _ _ (λ fault e. inl e) c.put_back-closed.ensures.cause)
+    c.put_back-closed.ensures.no_fewer c.close_areas.ensures.no_fewer
+    (weaker (IsOfJournal count) (IsOfSet count) c.close_areas.result _ _ (λ fault is. inr is) c.close_areas.ensures.cause)
