@@ -1,5 +1,5 @@
 -- A set of devices that was opened, read and closed.
-use Rattle.std.proofs.Common.{◌≡◌, ◌≢◌, ◌⊎◌, ℕ, ◌^◌, ◌<◌, ◌≤◌, List, ◌++◌, length, take, drop, refl, sym, ap, subst, ◌∙◌, arith, inl, inr}
+use Rattle.std.proofs.Common.{◌≡◌, ◌≢◌, ◌⊎◌, ℕ, ◌<◌, ◌≤◌, List, ◌++◌, length, take, drop, refl, sym, ap, subst, ◌∙◌, arith, inl, inr}
 use Rattle.std.specs.Prelude.{Option, Some, None, IfErr, IfSome, IsSomeAnd, MatchOption, OnErr, OnOk, Result, Ok, Err, slice_get}
 use Rattle.std.proofs.lemmas.List.{take_at}
 use Rattle.std.proofs.lemmas.Option.{slice_get_within}
@@ -163,7 +163,7 @@ out_read view before now home old new out read = record {
 
 module _ {D : Type 0} (view : D → DiskView) (before mid now : Names) (home home' : DiskView) (old new : List (AreaView D)) (super : Super) (out : IsOut view before mid home old) (closed : IsClosed view before now home' new) (opened : AllOpened super old)
     (has_home : HasHome before super) (has_journals : HasJournals before super super.sizes.cores) where
-  fits_at : (core : ℕ) (a : AreaView D) → slice_get old core ≡ Some a → (core < 2 ^ 32) × (core < super.sizes.cores)
+  fits_at : (core : ℕ) (a : AreaView D) → slice_get old core ≡ Some a → (core < 8) × (core < super.sizes.cores)
   fits_at core a here = let below = slice_get_within old core a here in (omega (arith, below, opened.few), omega (arith, below, opened.many))
 
   -- what was read of an area was read of that core's journal

@@ -1,5 +1,5 @@
 -- The devices of an image, put back one after the other.
-use Rattle.std.proofs.Common.{◌≡◌, ◌≢◌, inl, inr, ℕ, ◌+◌, ◌^◌, ◌<◌, ◌≤◌, List, ◌∷◌, length, drop, get_or, sym, ap, subst, ◌∙◌, arith, below_more}
+use Rattle.std.proofs.Common.{◌≡◌, ◌≢◌, inl, inr, ℕ, ◌+◌, ◌<◌, ◌≤◌, List, ◌∷◌, length, drop, get_or, sym, ap, subst, ◌∙◌, arith, below_more}
 use Rattle.std.specs.Prelude.{IfErr, IfSome, OnOk, MatchOption, slice_get, Option, Some, None, Result, Ok, Err}
 use Rattle.std.specs.Result.{result_and}
 use Rattle.std.specs.Fmt.{decimal}
@@ -9,10 +9,8 @@ use Rattle.std.proofs.lemmas.Option.{slice_get-get_or, slice_get_cases}
 use Rattle.zj_dev.specs.Disk.{DiskView}
 use Rattle.zj_dev.specs.Fault.{Rose}
 use Rattle.zj_dev.specs.Shelf.{Names, Slot, Untold, Absent, Out, Stands, Closes, OthersStay}
-use Rattle.zj_dev.specs.declared.device.Device.{Device}
 use Rattle.zj_area.specs.Journal.{AreaView}
 use Rattle.zj_cli.specs.declared.status.Fault.{Fault}
-use Rattle.zj_cli.specs.declared.status.Fault.TheVariants as faults
 use Rattle.zj_cli.specs.Set.{AllBack, IsBack, IsClosed, IsLent, IsOut, IsPutBack, home_name, journal_name}
 
 -- The journals of these areas that stand before that core are closed.
@@ -24,7 +22,7 @@ abbrev pub KeptBut : ℕ → Names → Names → Type 0
 KeptBut count old now = (name : List ℕ) → ((core : ℕ) → core < count → name ≢ journal_name core) → now name ≡ old name
 
 -- the names tell the devices apart
-pub apart : (core other : ℕ) → core < 2 ^ 32 → other < 2 ^ 32 → core ≢ other → journal_name core ≢ journal_name other
+pub apart : (core other : ℕ) → core < 8 → other < 8 → core ≢ other → journal_name core ≢ journal_name other
 apart core other small below differ same =
     let digits : decimal core ≡ decimal other = cc in
     differ (decimal_injective core other (omega arith) (omega arith) digits)
@@ -129,7 +127,7 @@ all_quiet first one both old now new is was quiet =
     subst (λ r. OnOk r (new ≡ old)) (sym is) (quiet_of first one old now new was quiet)
 
 -- the journals of these areas are closed, and those of no area are kept
-pub closed_or_kept : {D : Type 0} (view : D → DiskView) (areas : List (AreaView D)) (old new : Names) (core : ℕ) → length areas ≤ 8 → core < 2 ^ 32
+pub closed_or_kept : {D : Type 0} (view : D → DiskView) (areas : List (AreaView D)) (old new : Names) (core : ℕ) → length areas ≤ 8 → core < 8
     → ClosedBelow view areas (length areas) old new → KeptBut (length areas) old new
     → MatchOption (slice_get areas core) (new (journal_name core) ≡ old (journal_name core)) (λ area. Closes (view area.device) (old (journal_name core)) (new (journal_name core)))
 closed_or_kept view areas old new core few small journals kept =

@@ -1,5 +1,5 @@
 -- One journal after the other is taken out.
-use Rattle.std.proofs.Common.{◌≡◌, ℕ, zero, suc, ◌+◌, ◌^◌, ◌<◌, ◌≤◌, List, [], ◌∷◌, ◌++◌, length, refl, sym, ap, subst, ◌∙◌, arith, inl, inr}
+use Rattle.std.proofs.Common.{◌≡◌, ℕ, zero, suc, ◌+◌, ◌<◌, ◌≤◌, List, [], ◌∷◌, ◌++◌, length, refl, sym, ap, subst, ◌∙◌, arith, inl, inr}
 use Rattle.std.specs.Prelude.{Option, Some, None, MatchOption, slice_get}
 use Rattle.std.proofs.lemmas.Bool.{cases_eq, cases_lt}
 use Rattle.std.proofs.lemmas.Option.{slice_get_past}
@@ -41,7 +41,7 @@ module _ {D : Type 0} (view : D → DiskView) (before : Names) (super : Super) w
   opened_none = record { many = refl; lengths = λ core below. absurd (omega arith); journals = λ core small. refl; others = λ name none. refl }
 
   -- one more
-  pub opened_more : (now new : Names) (count : ℕ) (areas : List (AreaView D)) (area : AreaView D) → count < 2 ^ 32 → AreOpened view before now super count areas → OthersStay (journal_name count) now new
+  pub opened_more : (now new : Names) (count : ℕ) (areas : List (AreaView D)) (area : AreaView D) → count < 8 → AreOpened view before now super count areas → OthersStay (journal_name count) now new
       → IsLent (now (journal_name count)) (new (journal_name count)) (view area.device) → IsOpened super count area → OfLength (now (journal_name count)) (λ len. len ≡ super.sizes.area)
       → AreOpened view before new super (count + 1) (areas ++ area ∷ [])
   opened_more now new count areas area small so_far stay lent opened long =
@@ -57,7 +57,7 @@ module _ {D : Type 0} (view : D → DiskView) (before : Names) (super : Super) w
         others = λ name none. stay name (none count small) ∙ so_far.others name none;
       }
     where
-      at_core : (core : ℕ) → core < 2 ^ 32 → now (journal_name count) ≡ before (journal_name count) → MatchOption (slice_get (areas ++ area ∷ []) core) (new (journal_name core) ≡ before (journal_name core))
+      at_core : (core : ℕ) → core < 8 → now (journal_name count) ≡ before (journal_name count) → MatchOption (slice_get (areas ++ area ∷ []) core) (new (journal_name core) ≡ before (journal_name core))
           (λ a. IsLent (before (journal_name core)) (new (journal_name core)) (view a.device) × IsOpened super core a)
       at_core core fits here =
           elim (cases_eq core count) [
@@ -80,7 +80,7 @@ module _ {D : Type 0} (view : D → DiskView) (before : Names) (super : Super) w
           ]
 
   -- a fault on the way
-  pub some_out : (now new : Names) (count : ℕ) (areas : List (AreaView D)) → count < 2 ^ 32 → AreOpened view before now super count areas → OthersStay (journal_name count) now new → IsBack (now (journal_name count)) (new (journal_name count)) → SomeOut view before new areas
+  pub some_out : (now new : Names) (count : ℕ) (areas : List (AreaView D)) → count < 8 → AreOpened view before now super count areas → OthersStay (journal_name count) now new → IsBack (now (journal_name count)) (new (journal_name count)) → SomeOut view before new areas
   some_out now new count areas small so_far stay back =
       let here : now (journal_name count) ≡ before (journal_name count) = rw (slice_get_past areas count (omega (arith, so_far.many))) at (so_far.journals count small) in
       record {
@@ -122,5 +122,5 @@ journal_cause_since slot old mid new super core faults.Input le cause = cause
 journal_cause_since slot old mid new super core faults.Output le cause = cause
 
 -- what stands under the name that is next
-pub next_slot : {D : Type 0} (view : D → DiskView) (before now : Names) (super : Super) (count : ℕ) (areas : List (AreaView D)) → count < 2 ^ 32 → AreOpened view before now super count areas → now (journal_name count) ≡ before (journal_name count)
+pub next_slot : {D : Type 0} (view : D → DiskView) (before now : Names) (super : Super) (count : ℕ) (areas : List (AreaView D)) → count < 8 → AreOpened view before now super count areas → now (journal_name count) ≡ before (journal_name count)
 next_slot view before now super count areas small so_far = rw (slice_get_past areas count (omega (arith, so_far.many))) at (so_far.journals count small)

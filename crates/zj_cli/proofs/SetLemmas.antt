@@ -1,5 +1,5 @@
 -- Devices that are taken out of a shelf, read, and put back.
-use Rattle.std.proofs.Common.{◌≡◌, ◌≢◌, ℕ, ◌+◌, ◌^◌, ◌<◌, ◌≤◌, List, [], ◌∷◌, slice_index, refl, sym, ap, subst, ◌∙◌, arith, inl, inr}
+use Rattle.std.proofs.Common.{◌≡◌, ◌≢◌, ℕ, ◌+◌, ◌<◌, ◌≤◌, List, [], ◌∷◌, slice_index, refl, sym, ap, subst, ◌∙◌, arith, inl, inr}
 use Rattle.std.specs.Prelude.{IfSome, codes, decimal}
 use Rattle.std.proofs.lemmas.Bool.{cases_lt}
 use Rattle.std.proofs.lemmas.Fmt.{decimal_digit, decimal_injective}
@@ -19,7 +19,7 @@ pub name_of : (core k : ℕ) → core ≡ k → k < 10 → 106 ∷ (48 + k) ∷ 
 name_of core k e low = rw e (ap (λ (d : List ℕ). 106 ∷ d) (sym (decimal_digit k low)))
 
 -- journals have different names
-pub journals_differ : (a b : ℕ) → a < 2 ^ 32 → b < 2 ^ 32 → a ≢ b → journal_name a ≢ journal_name b
+pub journals_differ : (a b : ℕ) → a < 8 → b < 8 → a ≢ b → journal_name a ≢ journal_name b
 journals_differ a b small small' other e =
     let digits : decimal a ≡ decimal b = cc in
     other (decimal_injective a b (omega arith) (omega arith) digits)

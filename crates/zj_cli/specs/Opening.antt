@@ -1,5 +1,5 @@
 -- The journals of an image as they are taken out of their shelf, one after the other.
-use Rattle.std.specs.Prelude.{◌≡◌, ◌⊎◌, ℕ, ◌^◌, ◌<◌, ◌≤◌, List, length, IfSome, MatchOption, slice_get}
+use Rattle.std.specs.Prelude.{◌≡◌, ◌⊎◌, ℕ, ◌<◌, ◌≤◌, List, length, IfSome, MatchOption, slice_get}
 use Rattle.zj_dev.specs.Disk.{DiskView}
 use Rattle.zj_dev.specs.Shelf.{Names}
 use Rattle.zj_dev.specs.declared.device.Device.TheVariants as devices
@@ -14,13 +14,13 @@ use Rattle.zj_cli.specs.Set.{IsBack, IsLent, IsNoJournal, journal_name}
 pub record AreOpened {D : Type 0} (view : D → DiskView) (before now : Names) (super : Super) (count : ℕ) (areas : List (AreaView D)) : Type 0 where
   pub many : length areas ≡ count
   pub lengths : HasJournals before super count
-  pub journals : (core : ℕ) → core < 2 ^ 32 → MatchOption (slice_get areas core) (now (journal_name core) ≡ before (journal_name core))
+  pub journals : (core : ℕ) → core < 8 → MatchOption (slice_get areas core) (now (journal_name core) ≡ before (journal_name core))
       (λ area. IsLent (before (journal_name core)) (now (journal_name core)) (view area.device) × IsOpened super core area)
   pub others : (name : List ℕ) → IsNoJournal name → now name ≡ before name
 
 -- Some were taken out, and all else is back.
 pub record SomeOut {D : Type 0} (view : D → DiskView) (before now : Names) (areas : List (AreaView D)) : Type 0 where
-  pub journals : (core : ℕ) → core < 2 ^ 32 → MatchOption (slice_get areas core) (IsBack (before (journal_name core)) (now (journal_name core))) (λ area. IsLent (before (journal_name core)) (now (journal_name core)) (view area.device))
+  pub journals : (core : ℕ) → core < 8 → MatchOption (slice_get areas core) (IsBack (before (journal_name core)) (now (journal_name core))) (λ area. IsLent (before (journal_name core)) (now (journal_name core)) (view area.device))
   pub others : (name : List ℕ) → IsNoJournal name → now name ≡ before name
 
 -- why one of them was not opened: those before it were
@@ -31,7 +31,7 @@ IsJournalsCause before old new super fault = (core : ℕ) × (core < super.sizes
 pub record AllOpened {D : Type 0} (super : Super) (areas : List (AreaView D)) : Type 0 where
   pub many : length areas ≡ super.sizes.cores
   pub few : length areas ≤ 8
-  pub opened : (core : ℕ) → core < 2 ^ 32 → IfSome (slice_get areas core) (IsOpened super core)
+  pub opened : (core : ℕ) → core < 8 → IfSome (slice_get areas core) (IsOpened super core)
 
 -- a fault of the journal of one of the first cores, so many
 abbrev pub IsOfJournal : ℕ → Fault → Type 0

@@ -1,7 +1,4 @@
-use Rattle.std.proofs.Common.{length, List, ℕ, [], ◌++◌, sym, ap, subst, inl, inr, ◌∙◌}
-use Rattle.std.specs.Prelude.{Err}
-use Rattle.std.proofs.lemmas.List.{append-nil}
-use Rattle.zj_cli.specs.Check.{Checks}
+use Rattle.std.proofs.Common.{length, ◌++◌, sym, ap, inl, inr, ◌∙◌}
 use Rattle.zj_cli.proofs.CheckLemmas.{as_many, checks, close_cause, closes, each_fault, if_ok, of_err, read_cause}
 use Rattle.zj_cli.proofs.CloseLemmas.{all_back}
 use Rattle.zj_cli.proofs.SetLemmas.{rose_since}

@@ -1,4 +1,4 @@
-use Rattle.std.proofs.Common.{◌<◌, ◌^◌, ◌∙◌, arith, ap, subst}
+use Rattle.std.proofs.Common.{◌<◌, ◌∙◌, arith, ap, subst}
 use Rattle.std.proofs.lemmas.Result.{err_from_is_err_and}
 use Rattle.zj_block.specs.Sizes.{Numbers}
 use Rattle.zj_dev.specs.Shelf.{Slot}
@@ -21,7 +21,7 @@ returns-in_err-reserve-clause-cause g c =
 pub returns-in_err-area-clause-left : goal.returns-in_err-area-clause-left
 returns-in_err-area-clause-left g c =
     let p = err_from_is_err_and c.from_residual-in_err-area.result c.from_residual-in_err-area.ensures.1 in
-    let small : c.loop-core.core < 2 ^ 32 = omega (arith, c.cores-core-end.ensures.limits.most_cores, c.cores-core-end.ensures.value) in
+    let small : c.loop-core.core < 8 = omega (arith, c.cores-core-end.ensures.limits.most_cores, c.cores-core-end.ensures.value) in
     rw (p.1, c.reserve.ensures.items)
     (some_out g.H.D.Disk.view (g.H.Shelf.names c.args.shelf.now) c.args.home.now.told (g.H.Shelf.names c.loop-core.shelf) (g.H.Shelf.names c.open_journal.new.shelf) c.loop-core.core c.loop-core.areas.items small c.loop-core.invariant.opened
     c.open_journal.ensures.others c.in_err-area.ensures.back)
@@ -29,7 +29,7 @@ returns-in_err-area-clause-left g c =
 pub returns-in_err-area-clause-cause : goal.returns-in_err-area-clause-cause
 returns-in_err-area-clause-cause g c =
     let p = err_from_is_err_and c.from_residual-in_err-area.result c.from_residual-in_err-area.ensures.1 in
-    let small : c.loop-core.core < 2 ^ 32 = omega (arith, c.cores-core-end.ensures.limits.most_cores, c.cores-core-end.ensures.value) in
+    let small : c.loop-core.core < 8 = omega (arith, c.cores-core-end.ensures.limits.most_cores, c.cores-core-end.ensures.value) in
     let here = next_slot g.H.D.Disk.view (g.H.Shelf.names c.args.shelf.now) (g.H.Shelf.names c.loop-core.shelf) c.args.home.now.told c.loop-core.core c.loop-core.areas.items small c.loop-core.invariant.opened in
     let cause = journal_cause_since _ (g.H.Shelf.faults c.args.shelf.now) (g.H.Shelf.faults c.loop-core.shelf) (g.H.Shelf.faults c.open_journal.new.shelf) c.args.home.now.told c.loop-core.core c.in_err-area.field-0.0 c.loop-core.invariant.no_fewer c.in_err-area.ensures.cause in
     let same = ap (λ (n : Numbers). n.cores) c.sizes.ensures in
@@ -43,7 +43,7 @@ returns-in_err-area-clause-cause g c =
 
 pub loop-core-preserved : goal.loop-core-preserved
 loop-core-preserved g c =
-    let small : c.loop-core.core < 2 ^ 32 = omega (arith, c.cores-core-end.ensures.limits.most_cores, c.cores-core-end.ensures.value) in
+    let small : c.loop-core.core < 8 = omega (arith, c.cores-core-end.ensures.limits.most_cores, c.cores-core-end.ensures.value) in
     let items = rw (c.unwrap.ensures, c.reserve.ensures.items) at c.push.ensures.items in
     record {
       opened = rw items (opened_more g.H.D.Disk.view (g.H.Shelf.names c.args.shelf.now) c.args.home.now.told (g.H.Shelf.names c.loop-core.shelf) (g.H.Shelf.names c.open_journal.new.shelf) c.loop-core.core c.loop-core.areas.items c.in_ok-area.area small c.loop-core.invariant.opened
