@@ -1,6 +1,6 @@
 -- How many calls have failed by a moment.
 use Rattle.std.proofs.Common.{◌≡◌, ℕ, zero, suc, ◌+◌, ◌-◌, ◌^◌, ◌<◌, ◌≤◌, min, Bool, true, false, ◌||◌, inl, inr, cond, eqb, leb, ltb, List, refl, sym, ap, subst, ◌∙◌, arith}
-use Rattle.std.proofs.lemmas.Bool.{cond-true, cond-false, lt-ltb, le-ltb, le-leb, lt-leb, cases_lt, cond_both}
+use Rattle.std.proofs.lemmas.Bool.{cond-true, cond-false, lt-ltb, le-ltb, le-leb, lt-leb, cases_lt, cond_both, or_right, true≢false}
 use Rattle.std.specs.List.{list_any}
 use Rattle.zj_dev.specs.Fault.{Rose}
 use Rattle.zj_dev.specs.Medium.{fails_at, faults_before, faults_until}
@@ -59,6 +59,22 @@ no_fewer f n m is = elim (cases_lt (n + 1) (2 ^ 64 - 1)) [
             let a = faults_until-end f n late in
             rw a (omega arith)
       ])
+]
+
+-- A call that doesn't fail leaves it.
+pub quiet : (f : ℕ → Bool) (n m : ℕ) → n < 2 ^ 63 → m ≡ min (n + 1) (2 ^ 64 - 1) → f n ≡ false → faults_until f m ≡ faults_until f n
+quiet f n m early is none =
+    let e : m ≡ suc n = omega arith in
+    let a = faults_until-below f n (omega arith) in
+    let b = faults_until-below f (suc n) (omega arith) in
+    let one : faults_before f (suc n) ≡ faults_before f n + 0 = ap (λ (t : Bool). faults_before f n + cond t 1 0) none in
+    ap (λ (k : ℕ). faults_until f k) e ∙ b ∙ one ∙ omega arith ∙ sym a
+
+-- a disk that doesn't fail has not stopped
+pub not_stopped : (failing : List ℕ) (stop call : ℕ) → fails_at failing stop call ≡ false → call < stop
+not_stopped failing stop call none = elim (cases_lt call stop) [
+  | inl below ↦ below
+  | inr late ↦ absurd (true≢false (sym (or_right (list_any (λ told. eqb told call) failing) (leb stop call) (le-leb stop call late)) ∙ none))
 ]
 
 -- A call that fails raises the count.

@@ -8,8 +8,9 @@ use Rattle.zj_dev.specs.Medium.{Medium, at_rest, changed, medium_at, leaves, fil
 use Rattle.zj_dev.specs.declared.mem_disk.Extent.{Extent}
 use Rattle.zj_dev.specs.declared.mem_disk.Change.{Change}
 use Rattle.zj_dev.specs.declared.mem_disk.Change.TheVariants.{Wrote, Tore, Synced}
-use Rattle.zj_dev.specs.declared.mem_disk.Entry.{Entry}
-use Rattle.zj_dev.proofs.Images.{IsImage, is_image, is_left, image_bytes, pushed, comes_from, nothing_pending, agrees_itself, agrees_settled, filled_left, length-replaced, replaced_outside, replaced_bytes}
+use Rattle.zj_dev.specs.declared.mem_disk.HistoryEntry.{HistoryEntry}
+use Rattle.zj_dev.proofs.Images.{IsImage, is_image, is_left, image_bytes, pushed, comes_from, nothing_pending, agrees_itself, agrees_settled, filled_left, replaced_bytes}
+use Rattle.zj_dev.proofs.DiskLaws.{length-replaced, replaced_outside}
 use Rattle.zj_dev.proofs.Faults.{faults_until-same, no_fewer}
 
 -- a change within a device of so many bytes
@@ -27,24 +28,24 @@ changed_size size medium (Tore extent) fits is = is
 changed_size size medium Synced fits is = (is.0, is.0)
 
 -- one more entry of the history
-medium_at-push : (moment : ℕ) (medium : Medium) (history : List Entry) (entry : Entry) →
+medium_at-push : (moment : ℕ) (medium : Medium) (history : List HistoryEntry) (entry : HistoryEntry) →
     medium_at moment medium (history ++ entry ∷ []) ≡ cond (ltb entry.call moment) (changed (medium_at moment medium history) entry.change) (medium_at moment medium history)
 medium_at-push moment medium [] entry = refl
 medium_at-push moment medium (e ∷ es) entry = medium_at-push moment (cond (ltb e.call moment) (changed medium e.change) medium) es entry
 
-pub past_push : (moment : ℕ) (start : List ℕ) (history : List Entry) (entry : Entry) → moment ≤ entry.call →
+pub past_push : (moment : ℕ) (start : List ℕ) (history : List HistoryEntry) (entry : HistoryEntry) → moment ≤ entry.call →
     medium_at moment (at_rest start) (history ++ entry ∷ []) ≡ medium_at moment (at_rest start) history
 past_push moment start history entry early =
     medium_at-push moment (at_rest start) history entry ∙
     cond-false (ltb entry.call moment) (changed (medium_at moment (at_rest start) history) entry.change) (medium_at moment (at_rest start) history) (le-ltb entry.call moment early)
 
-later_push : (moment : ℕ) (start : List ℕ) (history : List Entry) (entry : Entry) → entry.call < moment →
+later_push : (moment : ℕ) (start : List ℕ) (history : List HistoryEntry) (entry : HistoryEntry) → entry.call < moment →
     medium_at moment (at_rest start) (history ++ entry ∷ []) ≡ changed (medium_at moment (at_rest start) history) entry.change
 later_push moment start history entry late =
     medium_at-push moment (at_rest start) history entry ∙
     cond-true (ltb entry.call moment) (changed (medium_at moment (at_rest start) history) entry.change) (medium_at moment (at_rest start) history) (lt-ltb entry.call moment late)
 
-push_size : (start : List ℕ) (history : List Entry) (calls : ℕ) (now : Medium) (entry : Entry) → IsHistory start history calls now → FitsIn (length start) entry.change →
+push_size : (start : List ℕ) (history : List HistoryEntry) (calls : ℕ) (now : Medium) (entry : HistoryEntry) → IsHistory start history calls now → FitsIn (length start) entry.change →
     (moment : ℕ) → IsSized (length start) (medium_at moment (at_rest start) (history ++ entry ∷ []))
 push_size start history calls now entry is fits moment =
     let P : Medium → Type 0 = λ medium. IsSized (length start) medium in
@@ -61,11 +62,11 @@ pub record IsSound (size : ℕ) (now : Medium) : Type 0 where
   pub within : All (λ extent. extent.at + extent.count ≤ size) now.pending
 
 -- The call changes what the disk holds.
-pub grows : (start : List ℕ) (history next : List Entry) (calls : ℕ) (now : Medium) (entry : Entry) → IsHistory start history calls now →
+pub grows : (start : List ℕ) (history next : List HistoryEntry) (calls : ℕ) (now : Medium) (entry : HistoryEntry) → IsHistory start history calls now →
     entry.call ≡ calls → FitsIn (length start) entry.change → IsSound (length start) (changed now entry.change) → next ≡ history ++ entry ∷ [] →
     IsHistory start next (calls + 1) (changed now entry.change)
 grows start history next calls now entry is call fits sound next_is =
-    let P : List Entry → Type 0 = λ h. IsHistory start h (calls + 1) (changed now entry.change) in
+    let P : List HistoryEntry → Type 0 = λ h. IsHistory start h (calls + 1) (changed now entry.change) in
     subst P (sym next_is) (record {
       replay = λ moment late. later_push moment start history entry (omega arith) ∙ ap (λ (m : Medium). changed m entry.change) (is.replay moment (omega arith));
       size = λ moment. (push_size start history calls now entry is fits moment).0;
@@ -76,7 +77,7 @@ grows start history next calls now entry is call fits sound next_is =
     })
 
 -- The call leaves what the disk holds.
-pub waits : (start : List ℕ) (history : List Entry) (calls later : ℕ) (now : Medium) → IsHistory start history calls now → calls ≤ later → IsHistory start history later now
+pub waits : (start : List ℕ) (history : List HistoryEntry) (calls later : ℕ) (now : Medium) → IsHistory start history calls now → calls ≤ later → IsHistory start history later now
 waits start history calls later now is le = record {
   replay = λ moment late. is.replay moment (omega arith);
   size = is.size;
@@ -97,17 +98,17 @@ begins bytes all = record {
   within = λ k d l. absurd (omega arith);
 }
 
-pub size_is : (start : List ℕ) (history : List Entry) (calls : ℕ) (now : Medium) → IsHistory start history calls now → (length now.bytes ≡ length start) × (length now.settled ≡ length start)
+pub size_is : (start : List ℕ) (history : List HistoryEntry) (calls : ℕ) (now : Medium) → IsHistory start history calls now → (length now.bytes ≡ length start) × (length now.settled ≡ length start)
 size_is start history calls now is = (
   ap (λ (m : Medium). length m.bytes) (sym (is.replay calls (omega arith))) ∙ is.size calls,
   ap (λ (m : Medium). length m.settled) (sym (is.replay calls (omega arith))) ∙ is.settled_size calls,
 )
 
-leaves_now : (start : List ℕ) (history : List Entry) (calls : ℕ) (now : Medium) (image : List ℕ) → IsHistory start history calls now → leaves (medium_at calls (at_rest start) history) image ≡ leaves now image
+leaves_now : (start : List ℕ) (history : List HistoryEntry) (calls : ℕ) (now : Medium) (image : List ℕ) → IsHistory start history calls now → leaves (medium_at calls (at_rest start) history) image ≡ leaves now image
 leaves_now start history calls now image is = ap (λ (m : Medium). leaves m image) (is.replay calls (omega arith))
 
 -- what the disk tells keeps the rules of a disk
-pub is_disk : (start : List ℕ) (history : List Entry) (failing : List ℕ) (stop calls : ℕ) (now : Medium) → IsHistory start history calls now → calls < 2 ^ 64 → IsDisk (told start history failing stop calls now.bytes)
+pub is_disk : (start : List ℕ) (history : List HistoryEntry) (failing : List ℕ) (stop calls : ℕ) (now : Medium) → IsHistory start history calls now → calls < 2 ^ 64 → IsDisk (told start history failing stop calls now.bytes)
 is_disk start history failing stop calls now is fits = record {
   current = leaves_now start history calls now now.bytes is ∙ is.current;
   filled = λ moment image le h.
@@ -120,7 +121,7 @@ is_disk start history failing stop calls now is fits = record {
 }
 
 -- One call more: what the disk told of earlier moments stays.
-pub goes_on : (start : List ℕ) (history next : List Entry) (failing : List ℕ) (stop stop' calls calls' : ℕ) (now now' : Medium) →
+pub goes_on : (start : List ℕ) (history next : List HistoryEntry) (failing : List ℕ) (stop stop' calls calls' : ℕ) (now now' : Medium) →
     IsHistory start history calls now → IsHistory start next calls' now' → calls' ≡ min (calls + 1) (2 ^ 64 - 1) →
     ((moment : ℕ) → moment < calls' → medium_at moment (at_rest start) next ≡ medium_at moment (at_rest start) history) →
     ((k : ℕ) → k < calls → fails_at failing stop' k ≡ fails_at failing stop k) →
@@ -137,7 +138,7 @@ goes_on start history next failing stop stop' calls calls' now now' was is count
 }
 
 -- A call that changes nothing.
-pub leaves_all : (start : List ℕ) (history : List Entry) (failing : List ℕ) (stop stop' calls calls' : ℕ) (now : Medium) →
+pub leaves_all : (start : List ℕ) (history : List HistoryEntry) (failing : List ℕ) (stop stop' calls calls' : ℕ) (now : Medium) →
     IsHistory start history calls now → calls' ≡ min (calls + 1) (2 ^ 64 - 1) → calls ≤ calls' →
     ((k : ℕ) → k < calls → fails_at failing stop' k ≡ fails_at failing stop k) →
     LeavesAll (told start history failing stop calls now.bytes) (told start history failing stop' calls' now.bytes)
@@ -150,7 +151,7 @@ leaves_all start history failing stop stop' calls calls' now was count le same =
     }
 
 -- A write that changes nothing is a write that failed.
-pub leaves_a_write : (at count : ℕ) (start : List ℕ) (history : List Entry) (failing : List ℕ) (stop stop' calls calls' : ℕ) (now : Medium) →
+pub leaves_a_write : (at count : ℕ) (start : List ℕ) (history : List HistoryEntry) (failing : List ℕ) (stop stop' calls calls' : ℕ) (now : Medium) →
     IsHistory start history calls now → calls' ≡ min (calls + 1) (2 ^ 64 - 1) → calls ≤ calls' →
     ((k : ℕ) → k < calls → fails_at failing stop' k ≡ fails_at failing stop k) →
     FailsToWrite at count (told start history failing stop calls now.bytes) (told start history failing stop' calls' now.bytes)
@@ -163,7 +164,7 @@ leaves_a_write at count start history failing stop stop' calls calls' now was co
     }
 
 -- With one more extent pending, each image comes from one of before.
-tears_only : (start : List ℕ) (history next : List Entry) (failing : List ℕ) (stop stop' calls calls' : ℕ) (now : Medium) (bytes : List ℕ) (extent : Extent) →
+tears_only : (start : List ℕ) (history next : List HistoryEntry) (failing : List ℕ) (stop stop' calls calls' : ℕ) (now : Medium) (bytes : List ℕ) (extent : Extent) →
     IsHistory start history calls now → extent.at + extent.count ≤ length start →
     IsHistory start next calls' (record { bytes = bytes; settled = now.settled; pending = now.pending ++ extent ∷ [] }) →
     TearsOnly extent.at extent.count (told start history failing stop calls now.bytes) (told start next failing stop' calls' bytes)
@@ -179,7 +180,7 @@ within_push : (size : ℕ) (extents : List Extent) (extent : Extent) → All (λ
 within_push size extents extent all fits = All-push (λ e. e.at + e.count ≤ size) extents extent all fits
 
 -- what a device holds after a change is sound
-pub sound_wrote : (start : List ℕ) (history : List Entry) (calls : ℕ) (now : Medium) (extent : Extent) (piece : List ℕ) →
+pub sound_wrote : (start : List ℕ) (history : List HistoryEntry) (calls : ℕ) (now : Medium) (extent : Extent) (piece : List ℕ) →
     IsHistory start history calls now → extent.count ≡ length piece → extent.at + extent.count ≤ length start → AreBytes piece →
     IsSound (length start) (record { bytes = replaced now.bytes extent.at piece; settled = now.settled; pending = now.pending ++ extent ∷ [] })
 sound_wrote start history calls now extent piece is count fits all =
@@ -196,7 +197,7 @@ sound_wrote start history calls now extent piece is count fits all =
       within = within_push (length start) now.pending extent is.within fits;
     }
 
-pub sound_tore : (start : List ℕ) (history : List Entry) (calls : ℕ) (now : Medium) (extent : Extent) →
+pub sound_tore : (start : List ℕ) (history : List HistoryEntry) (calls : ℕ) (now : Medium) (extent : Extent) →
     IsHistory start history calls now → extent.at + extent.count ≤ length start →
     IsSound (length start) (record { bytes = now.bytes; settled = now.settled; pending = now.pending ++ extent ∷ [] })
 sound_tore start history calls now extent is fits =
@@ -208,7 +209,7 @@ sound_tore start history calls now extent is fits =
       within = within_push (length start) now.pending extent is.within fits;
     }
 
-pub sound_synced : (start : List ℕ) (history : List Entry) (calls : ℕ) (now : Medium) → IsHistory start history calls now → IsSound (length start) (at_rest now.bytes)
+pub sound_synced : (start : List ℕ) (history : List HistoryEntry) (calls : ℕ) (now : Medium) → IsHistory start history calls now → IsSound (length start) (at_rest now.bytes)
 sound_synced start history calls now is =
     let all = image_bytes now.pending now.settled now.bytes (is_image now.pending now.settled now.bytes is.current) in
     record {
@@ -218,7 +219,7 @@ sound_synced start history calls now is =
     }
 
 -- A write that was answered Ok.
-pub writes : (start : List ℕ) (history next : List Entry) (failing : List ℕ) (stop calls calls' : ℕ) (now : Medium) (extent : Extent) (piece : List ℕ) →
+pub writes : (start : List ℕ) (history next : List HistoryEntry) (failing : List ℕ) (stop calls calls' : ℕ) (now : Medium) (extent : Extent) (piece : List ℕ) →
     IsHistory start history calls now → extent.count ≡ length piece → extent.at + extent.count ≤ length start →
     IsHistory start next calls' (record { bytes = replaced now.bytes extent.at piece; settled = now.settled; pending = now.pending ++ extent ∷ [] }) →
     calls' ≡ min (calls + 1) (2 ^ 64 - 1) →
@@ -238,7 +239,7 @@ writes start history next failing stop calls calls' now extent piece was count f
     }
 
 -- A write that failed, and may have torn its range.
-pub tears : (start : List ℕ) (history next : List Entry) (failing : List ℕ) (stop calls calls' : ℕ) (now : Medium) (extent : Extent) →
+pub tears : (start : List ℕ) (history next : List HistoryEntry) (failing : List ℕ) (stop calls calls' : ℕ) (now : Medium) (extent : Extent) →
     IsHistory start history calls now → extent.at + extent.count ≤ length start →
     IsHistory start next calls' (record { bytes = now.bytes; settled = now.settled; pending = now.pending ++ extent ∷ [] }) →
     calls' ≡ min (calls + 1) (2 ^ 64 - 1) →
@@ -253,7 +254,7 @@ tears start history next failing stop calls calls' now extent was fits is counte
     }
 
 -- A sync that was answered Ok.
-pub syncs : (start : List ℕ) (history next : List Entry) (failing : List ℕ) (stop calls calls' : ℕ) (now : Medium) →
+pub syncs : (start : List ℕ) (history next : List HistoryEntry) (failing : List ℕ) (stop calls calls' : ℕ) (now : Medium) →
     IsHistory start history calls now → IsHistory start next calls' (at_rest now.bytes) → calls' ≡ min (calls + 1) (2 ^ 64 - 1) →
     ((moment : ℕ) → moment < calls' → medium_at moment (at_rest start) next ≡ medium_at moment (at_rest start) history) →
     Syncs (told start history failing stop calls now.bytes) (told start next failing stop calls' now.bytes)
@@ -266,19 +267,19 @@ syncs start history next failing stop calls calls' now was is counted past = rec
 }
 
 -- a new disk
-pub fresh : (bytes start : List ℕ) (history : List Entry) (given settled : List ℕ) (pending : List Extent) → AreBytes bytes →
+pub fresh : (bytes start : List ℕ) (history : List HistoryEntry) (given settled : List ℕ) (pending : List Extent) → AreBytes bytes →
     start ≡ bytes → history ≡ [] → given ≡ bytes → settled ≡ bytes → pending ≡ [] → IsHistory start history 0 (record { bytes = given; settled = settled; pending = pending })
 fresh bytes start history given settled pending all e1 e2 e3 e4 e5 = rw (e1, e2, e3, e4, e5) (begins bytes all)
 
-pub fresh_only : (bytes start : List ℕ) (history : List Entry) (image : List ℕ) → start ≡ bytes → history ≡ [] →
+pub fresh_only : (bytes start : List ℕ) (history : List HistoryEntry) (image : List ℕ) → start ≡ bytes → history ≡ [] →
     leaves (medium_at 0 (at_rest start) history) image ≡ true → image ≡ bytes
 fresh_only bytes start history image e1 e2 h =
-    let P : List ℕ → List Entry → Type 0 = λ s es. leaves (medium_at 0 (at_rest s) es) image ≡ true in
-    let here : P bytes [] = subst (λ (es : List Entry). P bytes es) e2 (subst (λ (s : List ℕ). P s history) e1 h) in
+    let P : List ℕ → List HistoryEntry → Type 0 = λ s es. leaves (medium_at 0 (at_rest s) es) image ≡ true in
+    let here : P bytes [] = subst (λ (es : List HistoryEntry). P bytes es) e2 (subst (λ (s : List ℕ). P s history) e1 h) in
     nothing_pending bytes image (is_image [] bytes image here)
 
 -- A call that changes what the disk holds, with its entry at the end of the history.
-pub recorded : (start : List ℕ) (history next : List Entry) (calls : ℕ) (now after : Medium) (entry : Entry) → IsHistory start history calls now →
+pub recorded : (start : List ℕ) (history next : List HistoryEntry) (calls : ℕ) (now after : Medium) (entry : HistoryEntry) → IsHistory start history calls now →
     entry.call ≡ calls → FitsIn (length start) entry.change → changed now entry.change ≡ after → IsSound (length start) after → next ≡ history ++ entry ∷ [] →
     IsHistory start next (calls + 1) after
 recorded start history next calls now after entry is call fits change_is sound next_is =
@@ -290,7 +291,7 @@ pub counted : (calls : ℕ) → calls < 2 ^ 63 → calls + 1 ≡ min (calls + 1)
 counted calls early = omega arith
 
 -- what a write leaves of the history
-pub written_history : (start : List ℕ) (history next : List Entry) (calls : ℕ) (bytes settled after : List ℕ) (pending now_pending : List Extent) (extent : Extent) (piece : List ℕ) (entry : Entry) →
+pub written_history : (start : List ℕ) (history next : List HistoryEntry) (calls : ℕ) (bytes settled after : List ℕ) (pending now_pending : List Extent) (extent : Extent) (piece : List ℕ) (entry : HistoryEntry) →
     IsHistory start history calls (record { bytes = bytes; settled = settled; pending = pending }) → entry.call ≡ calls →
     changed (record { bytes = bytes; settled = settled; pending = pending }) entry.change ≡ record { bytes = replaced bytes extent.at piece; settled = settled; pending = pending ++ extent ∷ [] } →
     FitsIn (length bytes) entry.change → extent.count ≡ length piece → extent.at + length piece ≤ length bytes → AreBytes piece →
@@ -305,13 +306,13 @@ written_history start history next calls bytes settled after pending now_pending
     (sound_wrote start history calls now extent piece is count (omega arith) all) next_is)
 
 -- the earlier moments are as they were
-past_is : (start : List ℕ) (history next : List Entry) (calls : ℕ) (entry : Entry) → entry.call ≡ calls → next ≡ history ++ entry ∷ [] →
+past_is : (start : List ℕ) (history next : List HistoryEntry) (calls : ℕ) (entry : HistoryEntry) → entry.call ≡ calls → next ≡ history ++ entry ∷ [] →
     (moment : ℕ) → moment < calls + 1 → medium_at moment (at_rest start) next ≡ medium_at moment (at_rest start) history
 past_is start history next calls entry call next_is moment early =
-    ap (λ (h : List Entry). medium_at moment (at_rest start) h) next_is ∙ past_push moment start history entry (omega arith)
+    ap (λ (h : List HistoryEntry). medium_at moment (at_rest start) h) next_is ∙ past_push moment start history entry (omega arith)
 
 -- what a write tells
-pub writes_told : (start : List ℕ) (history next : List Entry) (failing : List ℕ) (stop calls : ℕ) (bytes settled after : List ℕ) (pending : List Extent) (extent : Extent) (piece : List ℕ) (entry : Entry) →
+pub writes_told : (start : List ℕ) (history next : List HistoryEntry) (failing : List ℕ) (stop calls : ℕ) (bytes settled after : List ℕ) (pending : List Extent) (extent : Extent) (piece : List ℕ) (entry : HistoryEntry) →
     IsHistory start history calls (record { bytes = bytes; settled = settled; pending = pending }) → entry.call ≡ calls →
     changed (record { bytes = bytes; settled = settled; pending = pending }) entry.change ≡ record { bytes = replaced bytes extent.at piece; settled = settled; pending = pending ++ extent ∷ [] } →
     FitsIn (length bytes) entry.change → extent.count ≡ length piece → extent.at + length piece ≤ length bytes → AreBytes piece →
@@ -324,7 +325,7 @@ writes_told start history next failing stop calls bytes settled after pending ex
     rw after_is (writes start history next failing stop calls (calls + 1) now extent piece is count (omega arith) is' (counted calls early) (past_is start history next calls entry call next_is))
 
 -- what a write that failed leaves of the history
-pub torn_history : (start : List ℕ) (history next : List Entry) (calls : ℕ) (bytes settled : List ℕ) (pending now_pending : List Extent) (extent : Extent) (entry : Entry) →
+pub torn_history : (start : List ℕ) (history next : List HistoryEntry) (calls : ℕ) (bytes settled : List ℕ) (pending now_pending : List Extent) (extent : Extent) (entry : HistoryEntry) →
     IsHistory start history calls (record { bytes = bytes; settled = settled; pending = pending }) → entry.call ≡ calls →
     changed (record { bytes = bytes; settled = settled; pending = pending }) entry.change ≡ record { bytes = bytes; settled = settled; pending = pending ++ extent ∷ [] } →
     FitsIn (length start) entry.change → extent.at + extent.count ≤ length bytes →
@@ -338,7 +339,7 @@ torn_history start history next calls bytes settled pending now_pending extent e
     (sound_tore start history calls now extent is (omega arith)) next_is)
 
 -- what a write that failed tells
-pub tears_told : (start : List ℕ) (history next : List Entry) (failing : List ℕ) (stop calls : ℕ) (bytes settled : List ℕ) (pending : List Extent) (extent : Extent) (entry : Entry) →
+pub tears_told : (start : List ℕ) (history next : List HistoryEntry) (failing : List ℕ) (stop calls : ℕ) (bytes settled : List ℕ) (pending : List Extent) (extent : Extent) (entry : HistoryEntry) →
     IsHistory start history calls (record { bytes = bytes; settled = settled; pending = pending }) → entry.call ≡ calls →
     changed (record { bytes = bytes; settled = settled; pending = pending }) entry.change ≡ record { bytes = bytes; settled = settled; pending = pending ++ extent ∷ [] } →
     FitsIn (length start) entry.change → extent.at + extent.count ≤ length bytes → next ≡ history ++ entry ∷ [] → calls < 2 ^ 63 →
@@ -350,7 +351,7 @@ tears_told start history next failing stop calls bytes settled pending extent en
     tears start history next failing stop calls (calls + 1) now extent is (omega arith) is' (counted calls early) (past_is start history next calls entry call next_is)
 
 -- what a sync leaves of the history
-pub synced_history : (start : List ℕ) (history next : List Entry) (calls : ℕ) (bytes settled after : List ℕ) (pending now_pending : List Extent) (entry : Entry) →
+pub synced_history : (start : List ℕ) (history next : List HistoryEntry) (calls : ℕ) (bytes settled after : List ℕ) (pending now_pending : List Extent) (entry : HistoryEntry) →
     IsHistory start history calls (record { bytes = bytes; settled = settled; pending = pending }) → entry.call ≡ calls → entry.change ≡ Synced →
     next ≡ history ++ entry ∷ [] → after ≡ bytes → now_pending ≡ [] →
     IsHistory start next (calls + 1) (record { bytes = bytes; settled = after; pending = now_pending })
@@ -361,7 +362,7 @@ synced_history start history next calls bytes settled after pending now_pending 
     (ap (λ (change : Change). changed now change) change_is) (sound_synced start history calls now is) next_is)
 
 -- what a sync tells
-pub syncs_told : (start : List ℕ) (history next : List Entry) (failing : List ℕ) (stop calls : ℕ) (bytes settled : List ℕ) (pending : List Extent) (entry : Entry) →
+pub syncs_told : (start : List ℕ) (history next : List HistoryEntry) (failing : List ℕ) (stop calls : ℕ) (bytes settled : List ℕ) (pending : List Extent) (entry : HistoryEntry) →
     IsHistory start history calls (record { bytes = bytes; settled = settled; pending = pending }) → entry.call ≡ calls → entry.change ≡ Synced →
     next ≡ history ++ entry ∷ [] → calls < 2 ^ 63 →
     Syncs (told start history failing stop calls bytes) (told start next failing stop (calls + 1) bytes)
@@ -371,17 +372,17 @@ syncs_told start history next failing stop calls bytes settled pending entry is 
     syncs start history next failing stop calls (calls + 1) now is is' (counted calls early) (past_is start history next calls entry call next_is)
 
 -- what a crash now may leave
-pub left_now : (start : List ℕ) (history : List Entry) (calls : ℕ) (now : Medium) (image : List ℕ) → IsHistory start history calls now → IsImage now.pending now.settled image →
+pub left_now : (start : List ℕ) (history : List HistoryEntry) (calls : ℕ) (now : Medium) (image : List ℕ) → IsHistory start history calls now → IsImage now.pending now.settled image →
     leaves (medium_at calls (at_rest start) history) image ≡ true
 left_now start history calls now image is h = leaves_now start history calls now image is ∙ is_left now.pending now.settled image h
 
-pub lost_left : (start : List ℕ) (history : List Entry) (calls : ℕ) (now : Medium) → IsHistory start history calls now → leaves (medium_at calls (at_rest start) history) now.settled ≡ true
+pub lost_left : (start : List ℕ) (history : List HistoryEntry) (calls : ℕ) (now : Medium) → IsHistory start history calls now → leaves (medium_at calls (at_rest start) history) now.settled ≡ true
 lost_left start history calls now is = left_now start history calls now now.settled is (agrees_settled now.pending now.settled is.settled_bytes)
 
-pub whole_left : (start : List ℕ) (history : List Entry) (calls : ℕ) (now : Medium) → IsHistory start history calls now → leaves (medium_at calls (at_rest start) history) now.bytes ≡ true
+pub whole_left : (start : List ℕ) (history : List HistoryEntry) (calls : ℕ) (now : Medium) → IsHistory start history calls now → leaves (medium_at calls (at_rest start) history) now.bytes ≡ true
 whole_left start history calls now is = leaves_now start history calls now now.bytes is ∙ is.current
 
-pub byte_left : (start : List ℕ) (history : List Entry) (calls : ℕ) (now : Medium) (byte : ℕ) → byte < 256 → IsHistory start history calls now →
+pub byte_left : (start : List ℕ) (history : List HistoryEntry) (calls : ℕ) (now : Medium) (byte : ℕ) → byte < 256 → IsHistory start history calls now →
     leaves (medium_at calls (at_rest start) history) (filled byte now.pending now.settled) ≡ true
 byte_left start history calls now byte small is =
     let n = (size_is start history calls now is).1 in
@@ -390,11 +391,11 @@ byte_left start history calls now byte small is =
     (subst (λ (size : ℕ). All (λ extent. extent.at + extent.count ≤ size) now.pending) (sym n) is.within) (λ i h. h) (agrees_settled now.pending now.settled is.settled_bytes))
 
 -- the extents lie within what is settled
-pub within_settled : (start : List ℕ) (history : List Entry) (calls : ℕ) (now : Medium) → IsHistory start history calls now → All (λ extent. extent.at + extent.count ≤ length now.settled) now.pending
+pub within_settled : (start : List ℕ) (history : List HistoryEntry) (calls : ℕ) (now : Medium) → IsHistory start history calls now → All (λ extent. extent.at + extent.count ≤ length now.settled) now.pending
 within_settled start history calls now is =
     subst (λ (size : ℕ). All (λ extent. extent.at + extent.count ≤ size) now.pending) (sym (size_is start history calls now is).1) is.within
 
 -- what a crash leaves that loses what is pending, keeps it, or fills it with a byte
-pub torn_left : (start : List ℕ) (history : List Entry) (calls : ℕ) (now : Medium) (image aim : List ℕ) → leaves (medium_at calls (at_rest start) history) aim ≡ true → image ≡ aim →
+pub torn_left : (start : List ℕ) (history : List HistoryEntry) (calls : ℕ) (now : Medium) (image aim : List ℕ) → leaves (medium_at calls (at_rest start) history) aim ≡ true → image ≡ aim →
     leaves (medium_at calls (at_rest start) history) image ≡ true
 torn_left start history calls now image aim h e = rw e h

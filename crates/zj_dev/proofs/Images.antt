@@ -3,9 +3,10 @@ use Rattle.std.proofs.Common.{◌≡◌, ℕ, zero, suc, ◌+◌, ◌-◌, ◌<�
 use Rattle.std.specs.Prelude.{All}
 use Rattle.std.proofs.lemmas.Bool.{false≢true, and_parts, and_from, or_cases, or_left, or_right, ltb-true, lt-ltb, leb-true, eqb-true, eq-eqb, cases_Bool}
 use Rattle.std.proofs.lemmas.Bool.Decides.{nat_tests}
-use Rattle.std.proofs.lemmas.List.{places, ext_get_or, get_or-take, get_or-drop, get_or_default, drop_more, drop-drop, append_assoc, length-take, length-drop, length-append, length-replicate, get_or-replicate}
+use Rattle.std.proofs.lemmas.List.{places, ext_get_or, get_or-take, get_or-drop, get_or_default, drop_more, drop-drop, append_assoc, length-take, length-drop, length-replicate, get_or-replicate}
 use borrow.Rule.Slice.PartMut.{put_mid}
 use Rattle.zj_dev.specs.Disk.{AreBytes, replaced, SameOutside}
+use Rattle.zj_dev.proofs.DiskLaws.{byte_outside, length-replaced, replaced_outside}
 use Rattle.zj_dev.specs.Medium.{lies_in, is_pending, may_be, filled}
 use Rattle.zj_dev.specs.declared.mem_disk.Extent.{Extent}
 
@@ -104,17 +105,7 @@ lies place extent h =
 pub lies_outside : (place : ℕ) (extent : Extent) → lies_in place extent ≡ false → (place < extent.at) ⊎ (extent.at + extent.count ≤ place)
 lies_outside place extent h = grind (arith, nat_tests)
 
--- outside the range the bytes are the same
-pub outside_at : (at count : ℕ) (old new : List ℕ) → SameOutside at count old new → (i : ℕ) → (i < at) ⊎ (at + count ≤ i) → get_or new i 0 ≡ get_or old i 0
-outside_at at count old new same i where_is = elim where_is [
-  | inl l ↦ sym (get_or-take at new i 0 l) ∙ ap (λ (xs : List ℕ). get_or xs i 0) same.before ∙ get_or-take at old i 0 l
-  | inr l ↦
-      let e : (at + count) + (i - (at + count)) ≡ i = omega arith in
-      subst (λ (n : ℕ). get_or new n 0 ≡ get_or old n 0) e
-      (sym (get_or-drop (at + count) new (i - (at + count)) 0) ∙ ap (λ (xs : List ℕ). get_or xs (i - (at + count)) 0) same.behind ∙ get_or-drop (at + count) old (i - (at + count)) 0)
-]
-
--- and the other way round
+-- the same bytes at each place outside a range
 pub same_outside : (at count : ℕ) (old new : List ℕ) → length new ≡ length old → ((i : ℕ) → (i < at) ⊎ (at + count ≤ i) → get_or new i 0 ≡ get_or old i 0) → SameOutside at count old new
 same_outside at count old new size each = record {
   size = size;
@@ -125,18 +116,11 @@ same_outside at count old new size each = record {
       (λ i l. get_or-drop (at + count) new i 0 ∙ each ((at + count) + i) (inr (omega arith)) ∙ sym (get_or-drop (at + count) old i 0));
 }
 
-pub length-replaced : (bytes : List ℕ) (at : ℕ) (piece : List ℕ) → at + length piece ≤ length bytes → length (replaced bytes at piece) ≡ length bytes
-length-replaced bytes at piece fits = simp (length-append, length-take, length-drop) (omega arith)
-
 pub replaced_inside : (bytes : List ℕ) (at : ℕ) (piece : List ℕ) → at + length piece ≤ length bytes → (i : ℕ) → at ≤ i → i < at + length piece → get_or (replaced bytes at piece) i 0 ≡ get_or piece (i - at) 0
 replaced_inside bytes at piece fits i low high = search (rules, places)
 
 pub replaced_outside_at : (bytes : List ℕ) (at : ℕ) (piece : List ℕ) → at + length piece ≤ length bytes → (i : ℕ) → (i < at) ⊎ (at + length piece ≤ i) → get_or (replaced bytes at piece) i 0 ≡ get_or bytes i 0
-replaced_outside_at bytes at piece fits i where_is = elim where_is [ inl l ↦ search (rules, places) | inr l ↦ search (rules, places) ]
-
-pub replaced_outside : (bytes : List ℕ) (at : ℕ) (piece : List ℕ) → at + length piece ≤ length bytes → SameOutside at (length piece) bytes (replaced bytes at piece)
-replaced_outside bytes at piece fits =
-    same_outside at (length piece) bytes (replaced bytes at piece) (length-replaced bytes at piece fits) (replaced_outside_at bytes at piece fits)
+replaced_outside_at bytes at piece fits i where_is = byte_outside at (length piece) bytes (replaced bytes at piece) i (replaced_outside bytes at piece fits) where_is
 
 at_place : (n i m : ℕ) → (i < n) ⊎ (n ≤ i)
 at_place n i m = grind (arith, nat_tests)
@@ -170,7 +154,7 @@ grows old_pending new_pending extent settled before image h same all keeps adds 
         cause = elim (cases_Bool (lies_in i extent)) [
           | inl inside ↦ inr (adds i inside)
           | inr outside ↦
-              let e = outside_at extent.at extent.count before image same i (lies_outside i extent outside) in
+              let e = byte_outside extent.at extent.count before image i same (lies_outside i extent outside) in
               elim (h.each i l).cause [ inl is ↦ inl (e ∙ is) | inr is ↦ inr (keeps i is) ]
         ];
       };
@@ -231,7 +215,7 @@ comes_from pending extent settled image h all fits =
               let e = before_inside settled image extent h.size fits i (lies i extent inside) in
               record { is_byte = rw e (all i 0 l); cause = inl e }
           | inr outside ↦
-              let e = outside_at extent.at extent.count before image same i (lies_outside i extent outside) in
+              let e = byte_outside extent.at extent.count before image i same (lies_outside i extent outside) in
               let here = h.each i l in
               record {
                 is_byte = rw (sym e) here.is_byte;

@@ -1,3 +1,4 @@
+pub mod DiskLaws
 pub mod Images
 pub mod Faults
 pub mod Histories

@@ -1,8 +1,8 @@
 -- What a disk is: the bytes that a read gives, what a crash may leave at each moment, and the count of faults.
 use Rattle.std.specs.Prelude.{◌≡◌, ℕ, ◌+◌, ◌-◌, ◌^◌, ◌<◌, ◌≤◌, min, Bool, true, List, ◌++◌, length, take, drop, All, Option, Some, is_some, IsSome, IfSome, option_map}
 
--- What a disk tells of itself. A moment is a number of calls made. A disk may leave its bytes untold, and then
--- `may_leave` and `faults_at` say nothing.
+-- What a disk tells of itself. A moment is a number of calls made. A disk may leave its bytes untold. What is said here of
+-- images and of counts at earlier moments holds of it all the same, so it leaves no image and tells 0 faults of each moment.
 pub record DiskView : Type 0 where
   -- how many bytes it has
   pub size : ℕ
@@ -55,13 +55,14 @@ pub record LeavesAll (old new : DiskView) : Type 0 where
   pub bytes : new.bytes ≡ old.bytes
   pub images : (image : List ℕ) → new.may_leave new.calls image ≡ old.may_leave old.calls image
 
--- Some calls were made, or none. What was told of earlier moments stays so.
+-- Some calls were made, or none. What was told of earlier moments stays so, and what a crash might leave at the first one.
 pub record Continues (old new : DiskView) : Type 0 where
   pub size : new.size ≡ old.size
   pub calls : old.calls ≤ new.calls
   pub no_fewer : old.faults ≤ new.faults
   pub told : is_some new.bytes ≡ is_some old.bytes
   pub images : (moment : ℕ) (image : List ℕ) → moment < old.calls → new.may_leave moment image ≡ old.may_leave moment image
+  pub here : (image : List ℕ) → old.calls < 2 ^ 64 - 1 → new.may_leave old.calls image ≡ old.may_leave old.calls image
   pub past : (moment : ℕ) → moment < old.calls → new.faults_at moment ≡ old.faults_at moment
 
 -- Nothing was written and nothing synced: a read gives what it gave, and at each moment since a crash leaves what it
@@ -74,6 +75,18 @@ pub record OnlyReads (old new : DiskView) : Type 0 where
 -- Whatever a crash leaves at a moment from that one on until now has this property.
 abbrev pub EachImageSince : ℕ → DiskView → (List ℕ → Type 0) → Type 0
 EachImageSince from disk P = (moment : ℕ) (image : List ℕ) → from ≤ moment → moment ≤ disk.calls → disk.may_leave moment image ≡ true → P image
+
+-- If each image that a crash left at first has P, then each that it leaves at a moment since has Q.
+abbrev pub LeadsTo : (List ℕ → Type 0) → (List ℕ → Type 0) → DiskView → DiskView → Type 0
+LeadsTo P Q old new = ((image : List ℕ) → old.may_leave old.calls image ≡ true → P image) → EachImageSince old.calls new Q
+
+-- Whatever a crash leaves at a moment since, it might leave at first.
+abbrev pub StaysSince : DiskView → DiskView → Type 0
+StaysSince old new = EachImageSince old.calls new (λ image. old.may_leave old.calls image ≡ true)
+
+-- Whatever a crash leaves at a moment since is an image from the first, with any bytes in the range.
+abbrev pub TearsSince : ℕ → ℕ → DiskView → DiskView → Type 0
+TearsSince at count old new = EachImageSince old.calls new (λ image. (before : List ℕ) × (old.may_leave old.calls before ≡ true) × SameOutside at count before image)
 
 -- Nothing is pending: a crash now leaves what a read gives, and nothing else.
 abbrev pub IsSettled : DiskView → Type 0
@@ -102,3 +115,10 @@ pub record Syncs (old new : DiskView) : Type 0 where
   pub goes_on : GoesOn old new
   pub bytes : new.bytes ≡ old.bytes
   pub only : (image : List ℕ) → new.may_leave new.calls image ≡ true → new.bytes ≡ Some image
+
+-- A sync that failed: a read gives what it gave, and a crash leaves nothing that it could not leave before. What was pending
+-- may be pending still.
+pub record FailsToSync (old new : DiskView) : Type 0 where
+  pub goes_on : GoesOn old new
+  pub bytes : new.bytes ≡ old.bytes
+  pub images : (image : List ℕ) → new.may_leave new.calls image ≡ true → old.may_leave old.calls image ≡ true

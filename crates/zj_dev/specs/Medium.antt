@@ -6,7 +6,7 @@ use Rattle.zj_dev.specs.Disk.{DiskView, AreBytes, replaced}
 use Rattle.zj_dev.specs.declared.mem_disk.Extent.{Extent}
 use Rattle.zj_dev.specs.declared.mem_disk.Change.{Change}
 use Rattle.zj_dev.specs.declared.mem_disk.Change.TheVariants.{Wrote, Tore, Synced}
-use Rattle.zj_dev.specs.declared.mem_disk.Entry.{Entry}
+use Rattle.zj_dev.specs.declared.mem_disk.HistoryEntry.{HistoryEntry}
 use Rattle.zj_dev.specs.declared.mem_disk.Torn.{Torn}
 use Rattle.zj_dev.specs.declared.mem_disk.Torn.TheVariants.{Lost, Whole, Filled}
 
@@ -35,7 +35,7 @@ changed medium (Tore extent) = torn medium extent
 changed medium Synced = at_rest medium.bytes
 
 -- what the device held at a moment: all changes of earlier calls, one after the other
-abbrev pub medium_at : ℕ → Medium → List Entry → Medium
+abbrev pub medium_at : ℕ → Medium → List HistoryEntry → Medium
 medium_at moment medium [] = medium
 medium_at moment medium (entry ∷ rest) = medium_at moment (if nat_lt entry.call moment then changed medium entry.change else medium) rest
 
@@ -83,7 +83,7 @@ abbrev pub faults_until : (ℕ → Bool) → ℕ → ℕ
 faults_until fails moment = if nat_lt moment (2 ^ 64 - 1) then faults_before fails moment else 2 ^ 64 - 1
 
 -- what a disk with this beginning, history and these failing calls tells of itself
-abbrev pub told : List ℕ → List Entry → List ℕ → ℕ → ℕ → List ℕ → DiskView
+abbrev pub told : List ℕ → List HistoryEntry → List ℕ → ℕ → ℕ → List ℕ → DiskView
 told start history failing stop calls bytes = record {
   size = length bytes;
   calls = calls;
@@ -94,7 +94,7 @@ told start history failing stop calls bytes = record {
 }
 
 -- The history of a disk says what it holds at each moment, and what it holds now is sound.
-pub record IsHistory (start : List ℕ) (history : List Entry) (calls : ℕ) (now : Medium) : Type 0 where
+pub record IsHistory (start : List ℕ) (history : List HistoryEntry) (calls : ℕ) (now : Medium) : Type 0 where
   pub replay : (moment : ℕ) → calls ≤ moment → medium_at moment (at_rest start) history ≡ now
   pub size : (moment : ℕ) → length (medium_at moment (at_rest start) history).bytes ≡ length start
   pub settled_size : (moment : ℕ) → length (medium_at moment (at_rest start) history).settled ≡ length start

@@ -1,5 +1,5 @@
 -- What a shelf is: which device stands under each name.
-use Rattle.std.specs.Prelude.{◌≡◌, ◌≢◌, ℕ, true, List, replicate, Option, Some, None, ◌⊎◌}
+use Rattle.std.specs.Prelude.{◌≡◌, ◌≢◌, ℕ, true, List, replicate, Option, Some, None, IfSome, ◌⊎◌}
 use Rattle.zj_dev.specs.Disk.{DiskView, IsDisk}
 
 -- What a shelf tells of a name: nothing, that no device has it, that its device is out, or its device.
@@ -10,11 +10,11 @@ pub data Slot : Type 0 where
   Stands : (disk : DiskView) → Slot
 
 -- what a shelf tells of each name
-abbrev pub Names : Type 0
-Names = List ℕ → Slot
+abbrev pub ShelfView : Type 0
+ShelfView = List ℕ → Slot
 
 -- All other names stay as they were.
-abbrev pub OthersStay : List ℕ → Names → Names → Type 0
+abbrev pub OthersStay : List ℕ → ShelfView → ShelfView → Type 0
 OthersStay name old new = (other : List ℕ) → other ≢ name → new other ≡ old other
 
 -- Opening takes the device that stands under the name, and answers None exactly where none does.
@@ -24,10 +24,10 @@ Opens Absent new disk = (new ≡ Absent) × (disk ≡ None)
 Opens Out new disk = (new ≡ Out) × (disk ≡ None)
 Opens (Stands stood) new disk = (new ≡ Out) × (disk ≡ Some stood)
 
--- A device of zero bytes, with nothing pending.
+-- A device of zero bytes, with nothing pending, as far as it tells its bytes.
 pub record IsBlank (count : ℕ) (disk : DiskView) : Type 0 where
   pub size : disk.size ≡ count
-  pub bytes : disk.bytes ≡ Some (replicate count 0)
+  pub bytes : IfSome disk.bytes (λ bytes. bytes ≡ replicate count 0)
   pub only : (image : List ℕ) → disk.may_leave disk.calls image ≡ true → image ≡ replicate count 0
   pub is_disk : IsDisk disk
 

@@ -2,7 +2,7 @@
 
 ghost use Rattle.std.specs.Prelude.{◌≡◌, ◌+◌, ◌^◌, ◌≤◌, length, slice_range, IsErr, OnOk, OnErr, IfSome};
 ghost use Rattle.zj_dev.specs.Fault.{Rose};
-ghost use Rattle.zj_dev.specs.Disk.{DiskView, IsDisk, LeavesAll, Writes, FailsToWrite, Syncs};
+ghost use Rattle.zj_dev.specs.Disk.{DiskView, IsDisk, LeavesAll, Writes, FailsToWrite, Syncs, FailsToSync};
 
 use thiserror::Error;
 
@@ -14,7 +14,8 @@ pub struct DiskFailed;
 /// A device of a fixed number of bytes, which a crash may tear between two syncs.
 ///
 /// A moment is a number of calls made. A crash within a call leaves what one at the moment before it or
-/// after it may leave. From 2^63 calls on every call fails.
+/// after it may leave. From 2^63 calls on every call fails. A call that answers Ok leaves the count of
+/// faults.
 pub trait Disk {
     /// What the disk tells of itself.
     ghost view: { Self → DiskView };
@@ -34,6 +35,7 @@ pub trait Disk {
         requires { at + length into.old ≤ (view self.old).size }
         ensures given { OnOk result (IfSome (view self.old).bytes (λ bytes. into.new ≡ slice_range bytes at (at + length into.old))) }
         ensures left { LeavesAll (view self.old) (view self.new) }
+        ensures quiet { OnOk result ((view self.new).faults ≡ (view self.old).faults) }
         ensures cause { OnErr result (Rose (view self.old).faults (view self.new).faults) }
         ensures late { 2 ^ 63 ≤ (view self.old).calls → IsErr result };
 
@@ -43,13 +45,16 @@ pub trait Disk {
         requires { at + length bytes.now ≤ (view self.old).size }
         ensures ok { OnOk result (Writes at bytes.now (view self.old) (view self.new)) }
         ensures err { OnErr result (FailsToWrite at (length bytes.now) (view self.old) (view self.new)) }
+        ensures quiet { OnOk result ((view self.new).faults ≡ (view self.old).faults) }
         ensures cause { OnErr result (Rose (view self.old).faults (view self.new).faults) }
         ensures late { 2 ^ 63 ≤ (view self.old).calls → IsErr result };
 
-    /// Makes all that was written outlast a crash. After `DiskFailed` what was pending is pending still.
+    /// Makes all that was written outlast a crash. After `DiskFailed` what was pending may be pending still:
+    /// a crash leaves nothing that it could not leave before.
     fn sync(&mut self) -> Result<(), DiskFailed>
         ensures ok { OnOk result (Syncs (view self.old) (view self.new)) }
-        ensures err { OnErr result (LeavesAll (view self.old) (view self.new)) }
+        ensures err { OnErr result (FailsToSync (view self.old) (view self.new)) }
+        ensures quiet { OnOk result ((view self.new).faults ≡ (view self.old).faults) }
         ensures cause { OnErr result (Rose (view self.old).faults (view self.new).faults) }
         ensures late { 2 ^ 63 ≤ (view self.old).calls → IsErr result };
 }

@@ -7,14 +7,19 @@ ghost use Rattle.zj_dev.specs.Fault.{Rose};
 use crate::disk::{Disk, DiskFailed};
 use crate::shelf::{Shelf, ShelfFailed};
 use std::fs::{OpenFile, OpenOptions};
-use std::io::{ErrorKind, Read, Seek, SeekFrom, Write};
+use std::io::ErrorKind;
+use std::os::unix::fs::FileExt;
 use std::rt::Files;
 use std::{fs, io};
 
 /// From this number on every call fails.
 const CALLS_END: u64 = 1 << 63;
 
-/// A disk over an open file. Its length is the file's at the opening.
+/// What a new file is filled with, piece by piece.
+static ZEROS: [u8; 4096] = [0; 4096];
+
+/// A disk over an open file. Its length is the file's at the opening. A read or a write is one call of the
+/// system, at its place. A sync leaves out the file's times.
 #[derive(Debug, Drop)]
 pub struct FileDisk<F> {
     file: F,
@@ -50,7 +55,7 @@ impl<F> FileDisk<F> {
     }
 }
 
-impl<F: Read + Write + Seek + OpenFile + Drop> FileDisk<F> {
+impl<F: FileExt + OpenFile + Drop> FileDisk<F> {
     ghost use Rattle.std.specs.Prelude.{◌≡◌, IfOk};
     ghost use Rattle.zj_dev.specs.Disk.{IsDisk};
 
@@ -71,19 +76,7 @@ impl<F: Read + Write + Seek + OpenFile + Drop> FileDisk<F> {
     }
 }
 
-/// Reads the bytes from a place on.
-fn read_at<F: Read + Seek>(file: &mut F, at: u64, into: &mut [u8]) -> io::Result<()> {
-    file.seek(SeekFrom::Start(at))?;
-    file.read_exact(into)
-}
-
-/// Writes the piece from a place on.
-fn write_at<F: Write + Seek>(file: &mut F, at: u64, bytes: &[u8]) -> io::Result<()> {
-    file.seek(SeekFrom::Start(at))?;
-    file.write_all(bytes)
-}
-
-impl<F: Read + Write + Seek + OpenFile> Disk for FileDisk<F> {
+impl<F: FileExt + OpenFile> Disk for FileDisk<F> {
     ghost use Rattle.zj_dev.specs.Untold.{untold};
 
     ghost view = { λ disk. untold disk.len disk.calls disk.faults };
@@ -97,21 +90,21 @@ impl<F: Read + Write + Seek + OpenFile> Disk for FileDisk<F> {
     }
 
     fn read(&mut self, at: u64, into: &mut [u8]) -> Result<(), DiskFailed> {
-        if self.begins() && read_at(&mut self.file, at, into).is_ok() {
+        if self.begins() && self.file.read_exact_at(into, at).is_ok() {
             return Ok(());
         }
         self.fails()
     }
 
     fn write(&mut self, at: u64, bytes: &[u8]) -> Result<(), DiskFailed> {
-        if self.begins() && write_at(&mut self.file, at, bytes).is_ok() {
+        if self.begins() && self.file.write_all_at(bytes, at).is_ok() {
             return Ok(());
         }
         self.fails()
     }
 
     fn sync(&mut self) -> Result<(), DiskFailed> {
-        if self.begins() && self.file.sync_all().is_ok() {
+        if self.begins() && self.file.sync_data().is_ok() {
             return Ok(());
         }
         self.fails()
@@ -125,7 +118,10 @@ pub struct FolderShelf<R> {
     faults: u64,
 }
 
-impl<R: Files> FolderShelf<R> {
+impl<R: Files> FolderShelf<R>
+where
+    R::File: FileExt,
+{
     ghost use Rattle.std.specs.Prelude.{◌≡◌};
 
     /// A shelf over the current folder, by the files of the runtime.
@@ -137,7 +133,10 @@ impl<R: Files> FolderShelf<R> {
 }
 
 /// Opens the plain file of that name. None where there is none, also where a folder has the name.
-fn open_plain<R: Files>(files: &R, name: &str) -> io::Result<Option<FileDisk<R::File>>> {
+fn open_plain<R: Files>(files: &R, name: &str) -> io::Result<Option<FileDisk<R::File>>>
+where
+    R::File: FileExt,
+{
     match fs::metadata(files, name) {
         Ok(found) if found.is_file() => {}
         Ok(_) => return Ok(None),
@@ -148,12 +147,22 @@ fn open_plain<R: Files>(files: &R, name: &str) -> io::Result<Option<FileDisk<R::
     Ok(Some(FileDisk::new(file)?))
 }
 
+/// Writes that many zeros, so that the system has a place for each byte.
+fn fill_with_zeros<F: FileExt>(file: &F, len: u64) -> io::Result<()> {
+    let mut at = 0;
+    while at < len {
+        let count = (len - at).min(ZEROS.len() as u64);
+        file.write_all_at(&ZEROS[..count as usize], at)?;
+        at += count;
+    }
+    Ok(())
+}
+
 /// Makes a file of zero bytes, and syncs it and the folder. None where anything has the name.
-fn create_plain<R: Files>(
-    files: &R,
-    name: &str,
-    len: u64,
-) -> io::Result<Option<FileDisk<R::File>>> {
+fn create_plain<R: Files>(files: &R, name: &str, len: u64) -> io::Result<Option<FileDisk<R::File>>>
+where
+    R::File: FileExt,
+{
     let created = OpenOptions::new()
         .read(true)
         .write(true)
@@ -164,13 +173,16 @@ fn create_plain<R: Files>(
         Err(e) if e.kind() == ErrorKind::AlreadyExists => return Ok(None),
         Err(e) => return Err(e),
     };
-    file.set_len(len)?;
+    fill_with_zeros(&file, len)?;
     file.sync_all()?;
     fs::open(files, ".")?.sync_all()?;
     Ok(Some(FileDisk::new(file)?))
 }
 
-impl<R: Files> Shelf for FolderShelf<R> {
+impl<R: Files> Shelf for FolderShelf<R>
+where
+    R::File: FileExt,
+{
     ghost use Rattle.zj_dev.specs.Shelf.{Untold};
 
     type D = FileDisk<R::File>;

@@ -24,7 +24,7 @@ enum Change {
 
 /// A change, and the number of the call that made it.
 #[derive(Debug, Drop)]
-struct Entry {
+struct HistoryEntry {
     call: u64,
     change: Change,
 }
@@ -48,7 +48,7 @@ const CALLS_END: u64 = 1 << 63;
 pub struct MemDisk {
     alloc: Global,
     start: Vec<u8>,
-    history: Vec<Entry>,
+    history: Vec<HistoryEntry>,
     bytes: Vec<u8>,
     settled: Vec<u8>,
     pending: Vec<Extent>,
@@ -60,11 +60,11 @@ pub struct MemDisk {
     ghost counted: { calls < 2 ^ 64 },
 }
 
-/// Adds an entry to the history, and its extent to the pending ones. Want of memory leaves both.
+/// Adds an entry to the history, and its extent to the pending ones. Where it is out of memory, both stay.
 fn record(
-    history: &mut Vec<Entry>,
+    history: &mut Vec<HistoryEntry>,
     pending: &mut Vec<Extent>,
-    entry: Entry,
+    entry: HistoryEntry,
     extent: Extent,
 ) -> Result<(), AllocError>
     ensures history { OnOk result (history.new.items ≡ history.old.items ++ entry ∷ []) }
@@ -124,9 +124,9 @@ fn filled_copy(
 }
 
 impl MemDisk {
-    ghost use Rattle.std.specs.Prelude.{◌≡◌, ℕ, ◌+◌, ◌-◌, ◌^◌, ◌<◌, ◌≤◌, List, length, true, min, unwrap_or, IsTrue, IfOk, OnOk, OnErr};
+    ghost use Rattle.std.specs.Prelude.{◌≡◌, ℕ, ◌+◌, ◌-◌, ◌^◌, ◌<◌, ◌≤◌, List, length, true, false, min, unwrap_or, IsTrue, IfOk, OnOk, OnErr};
     ghost use Rattle.zj_dev.specs.Fault.{Rose};
-    ghost use Rattle.zj_dev.specs.Disk.{IsDisk, LeavesAll, Writes, FailsToWrite, Syncs};
+    ghost use Rattle.zj_dev.specs.Disk.{IsDisk, LeavesAll, Writes, FailsToWrite, Syncs, FailsToSync};
     ghost use Rattle.zj_dev.specs.Medium.{at_rest, written, torn, leaves, torn_image};
     ghost use Rattle.zj_dev.specs.MemDisk.{medium_of, failing_calls, stop_call, calls_made, fails_now, disk_view, IsFresh, IsUnchanged, SameFailures, GivesUp};
 
@@ -182,6 +182,7 @@ impl MemDisk {
         ensures same { SameFailures self.old self.new }
         ensures calls { calls_made self.new ≡ min (calls_made self.old + 1) (2 ^ 64 - 1) }
         ensures all { LeavesAll (disk_view self.old) (disk_view self.new) }
+        ensures quiet { fails_now self.old ≡ false → (disk_view self.new).faults ≡ (disk_view self.old).faults }
         ensures cause { IsTrue (fails_now self.old) → Rose (disk_view self.old).faults (disk_view self.new).faults }
     {
         self.calls = self.calls.saturating_add(1);
@@ -198,12 +199,13 @@ impl MemDisk {
         self.calls = self.calls.saturating_add(1);
     }
 
-    /// Writes the piece. Want of memory leaves all as it was.
+    /// Writes the piece. Where it is out of memory, all is as it was.
     fn put(&mut self, at: usize, piece: &[u8]) -> Result<(), AllocError>
         requires within { at + length piece.now ≤ length (medium_of self.old).bytes }
         requires early { calls_made self.old < 2 ^ 63 }
         ensures ok { OnOk result (medium_of self.new ≡ written (medium_of self.old) (record { at = at; count = length piece.now }) piece.now) }
         ensures writes { OnOk result (Writes at piece.now (disk_view self.old) (disk_view self.new)) }
+        ensures quiet { OnOk result (fails_now self.old ≡ false → (disk_view self.new).faults ≡ (disk_view self.old).faults) }
         ensures err { OnErr result (IsUnchanged self.old self.new) }
         ensures same { SameFailures self.old self.new }
     {
@@ -212,7 +214,7 @@ impl MemDisk {
             count: piece.len(),
         };
         let copy = Vec::from_slice(self.alloc, piece)?;
-        let entry = Entry {
+        let entry = HistoryEntry {
             call: self.calls,
             change: Change::Wrote(extent, copy),
         };
@@ -222,21 +224,18 @@ impl MemDisk {
         Ok(())
     }
 
-    /// Fails to write, so that a crash may tear the range. Want of memory, or of numbers for calls, leaves
-    /// all as it was.
+    /// Fails to write, so that a crash may tear the range. Where it is out of memory, all is as it was.
     fn tear(&mut self, at: usize, count: usize) -> Result<(), AllocError>
-        requires { at + count ≤ length (medium_of self.old).bytes }
+        requires within { at + count ≤ length (medium_of self.old).bytes }
+        requires early { calls_made self.old < 2 ^ 63 }
         ensures ok { OnOk result (medium_of self.new ≡ torn (medium_of self.old) (record { at = at; count = count })) }
         ensures tears { OnOk result (FailsToWrite at count (disk_view self.old) (disk_view self.new)) }
         ensures cause { OnOk result (IsTrue (fails_now self.old) → Rose (disk_view self.old).faults (disk_view self.new).faults) }
         ensures err { OnErr result (IsUnchanged self.old self.new) }
         ensures same { SameFailures self.old self.new }
     {
-        if self.calls >= CALLS_END {
-            return Err(AllocError);
-        }
         let extent = Extent { at, count };
-        let entry = Entry {
+        let entry = HistoryEntry {
             call: self.calls,
             change: Change::Tore(extent),
         };
@@ -245,15 +244,16 @@ impl MemDisk {
         Ok(())
     }
 
-    /// Makes all that was written outlast a crash. Want of memory leaves all as it was.
+    /// Makes all that was written outlast a crash. Where it is out of memory, all is as it was.
     fn put_down(&mut self) -> Result<(), AllocError>
         requires { calls_made self.old < 2 ^ 63 }
         ensures ok { OnOk result (medium_of self.new ≡ at_rest (medium_of self.old).bytes) }
         ensures syncs { OnOk result (Syncs (disk_view self.old) (disk_view self.new)) }
+        ensures quiet { OnOk result (fails_now self.old ≡ false → (disk_view self.new).faults ≡ (disk_view self.old).faults) }
         ensures err { OnErr result (IsUnchanged self.old self.new) }
         ensures same { SameFailures self.old self.new }
     {
-        self.history.push(Entry {
+        self.history.push(HistoryEntry {
             call: self.calls,
             change: Change::Synced,
         })?;
@@ -267,7 +267,7 @@ impl MemDisk {
 impl Disk for MemDisk {
     ghost use Rattle.std.specs.Prelude.{◌≡◌, ◌+◌, ◌^◌, ◌≤◌, ◌↔◌, ◌⊎◌, length, slice_range, IsTrue, IsErr, OnOk, OnErr, IfSome};
     ghost use Rattle.zj_dev.specs.Fault.{Rose};
-    ghost use Rattle.zj_dev.specs.Disk.{IsDisk, LeavesAll, Writes, FailsToWrite, Syncs};
+    ghost use Rattle.zj_dev.specs.Disk.{IsDisk, LeavesAll, Writes, FailsToWrite, Syncs, FailsToSync};
     ghost use Rattle.zj_dev.specs.Medium.{at_rest, written, torn};
     ghost use Rattle.zj_dev.specs.MemDisk.{medium_of, fails_now, disk_view, SameFailures, GivesUp};
 
@@ -285,6 +285,7 @@ impl Disk for MemDisk {
         requires { at + length into.old ≤ (disk_view self.old).size }
         ensures given { OnOk result (IfSome (disk_view self.old).bytes (λ bytes. into.new ≡ slice_range bytes at (at + length into.old))) }
         ensures left { LeavesAll (disk_view self.old) (disk_view self.new) }
+        ensures quiet { OnOk result ((disk_view self.new).faults ≡ (disk_view self.old).faults) }
         ensures cause { OnErr result (Rose (disk_view self.old).faults (disk_view self.new).faults) }
         ensures late { 2 ^ 63 ≤ (disk_view self.old).calls → IsErr result }
         ensures fails { IsErr result ↔ IsTrue (fails_now self.old) }
@@ -305,6 +306,7 @@ impl Disk for MemDisk {
         requires { at + length bytes.now ≤ (disk_view self.old).size }
         ensures ok { OnOk result (Writes at bytes.now (disk_view self.old) (disk_view self.new)) }
         ensures err { OnErr result (FailsToWrite at (length bytes.now) (disk_view self.old) (disk_view self.new)) }
+        ensures quiet { OnOk result ((disk_view self.new).faults ≡ (disk_view self.old).faults) }
         ensures cause { OnErr result (Rose (disk_view self.old).faults (disk_view self.new).faults) }
         ensures late { 2 ^ 63 ≤ (disk_view self.old).calls → IsErr result }
         ensures fails { IsTrue (fails_now self.old) → IsErr result }
@@ -316,6 +318,10 @@ impl Disk for MemDisk {
             ⊎ ((medium_of self.new ≡ torn (medium_of self.old) (record { at = at; count = length bytes.now })) × SameFailures self.old self.new)) }
     {
         let at = at as usize;
+        if self.calls >= CALLS_END {
+            self.give_up();
+            return Err(DiskFailed);
+        }
         if self.fails() {
             if self.tear(at, bytes.len()).is_err() {
                 self.give_up();
@@ -331,7 +337,8 @@ impl Disk for MemDisk {
 
     fn sync(&mut self) -> Result<(), DiskFailed>
         ensures ok { OnOk result (Syncs (disk_view self.old) (disk_view self.new)) }
-        ensures err { OnErr result (LeavesAll (disk_view self.old) (disk_view self.new)) }
+        ensures err { OnErr result (FailsToSync (disk_view self.old) (disk_view self.new)) }
+        ensures quiet { OnOk result ((disk_view self.new).faults ≡ (disk_view self.old).faults) }
         ensures cause { OnErr result (Rose (disk_view self.old).faults (disk_view self.new).faults) }
         ensures late { 2 ^ 63 ≤ (disk_view self.old).calls → IsErr result }
         ensures fails { IsTrue (fails_now self.old) → IsErr result }

@@ -1,8 +1,8 @@
 //! A shelf in memory.
 
-ghost use Rattle.std.specs.Prelude.{◌≡◌, ◌^◌, [], IfOk};
+ghost use Rattle.std.specs.Prelude.{◌≡◌, ◌^◌, [], replicate, IfOk};
 ghost use Rattle.zj_dev.specs.Shelf.{IsBlank};
-ghost use Rattle.zj_dev.specs.MemDisk.{disk_view, failing_calls, stop_call};
+ghost use Rattle.zj_dev.specs.MemDisk.{IsFresh, disk_view, failing_calls, stop_call};
 
 use crate::disk::Disk;
 use crate::mem_disk::MemDisk;
@@ -10,12 +10,48 @@ use crate::shelf::{Shelf, ShelfFailed};
 use std::alloc::{AllocError, Global};
 use std::mem;
 
-/// A name, whether its device is out, and the device that stands there.
+/// What a shelf has under a name: nothing, a device that is out, or the device that stands there.
 #[derive(Debug, Drop)]
-struct Place {
+enum Held {
+    Absent,
+    Out,
+    Stands(MemDisk),
+}
+
+impl Held {
+    ghost use Rattle.std.specs.Prelude.{◌≡◌, is_some};
+    ghost use Rattle.zj_dev.specs.MemShelf.{disk_in, is_out};
+
+    /// Whether a device is out.
+    fn is_out(&self) -> bool
+        ensures { result ≡ is_out self.now }
+    {
+        matches!(self, Held::Out)
+    }
+
+    /// Whether a device stands there.
+    fn stands(&self) -> bool
+        ensures { result ≡ is_some (disk_in self.now) }
+    {
+        matches!(self, Held::Stands(_))
+    }
+
+    /// The device that stands there.
+    fn into_disk(self) -> Option<MemDisk>
+        ensures { result ≡ disk_in self }
+    {
+        match self {
+            Held::Stands(disk) => Some(disk),
+            Held::Absent | Held::Out => None,
+        }
+    }
+}
+
+/// A name, and what the shelf has under it.
+#[derive(Debug, Drop)]
+struct ShelfPlace {
     name: String,
-    out: bool,
-    disk: Option<MemDisk>,
+    held: Held,
 }
 
 /// A shelf in memory, whose devices are disks in memory. It tells what stands under each name, and fails
@@ -23,21 +59,22 @@ struct Place {
 #[derive(Debug, Drop)]
 pub struct MemShelf {
     alloc: Global,
-    places: Vec<Place>,
+    places: Vec<ShelfPlace>,
     faults: u64,
 }
 
 impl MemShelf {
-    ghost use Rattle.std.specs.Prelude.{◌≡◌, ℕ, List, Some, None, true, false, ◌^◌, [], IsTrue, is_some, IsOk, IfOk, OnOk, OnErr, OnSome, IfNone};
+    ghost use Rattle.std.specs.Prelude.{◌≡◌, ℕ, List, Some, ◌^◌, [], replicate, IsTrue, is_some, IsOk, IfOk, OnOk, OnErr, OnSome, IfNone};
     ghost use Rattle.std.specs.List.{position_from};
     ghost use Rattle.zj_dev.specs.Shelf.{Absent, IsBlank};
-    ghost use Rattle.zj_dev.specs.MemDisk.{disk_view, failing_calls, stop_call};
-    ghost use Rattle.zj_dev.specs.MemShelf.{Held, is_named, is_taken, held_under, shelf_names, shelf_faults, OthersHeld};
+    ghost use Rattle.zj_dev.specs.MemDisk.{IsFresh, disk_view, failing_calls, stop_call};
+    ghost use Rattle.zj_dev.specs.MemShelf.{disk_in, is_named, is_out, is_taken, held_under, shelf_names, shelf_faults, OthersHeld};
 
     /// A shelf with no device.
     pub fn new(alloc: Global) -> Result<MemShelf, AllocError>
         ensures ok { IsOk result }
         ensures empty { IfOk result (λ shelf. (name : List ℕ) → shelf_names shelf name ≡ Absent) }
+        ensures faults { IfOk result (λ shelf. shelf_faults shelf ≡ 0) }
     {
         Ok(MemShelf {
             alloc,
@@ -47,32 +84,33 @@ impl MemShelf {
     }
 
     /// Puts a device under the name, and answers the one that stood there. A device that was out is then
-    /// forgotten: closing it changes nothing. Want of memory leaves the shelf as it was, without the device.
+    /// forgotten: closing it changes nothing. Where it is out of memory, the shelf is as it was, without the
+    /// device.
     pub fn put(&mut self, name: &str, d: MemDisk) -> Result<Option<MemDisk>, AllocError>
-        ensures before { IfOk result (λ before. before ≡ (held_under self.old name.now).disk) }
-        ensures stands { OnOk result ((held_under self.new name.now).disk ≡ Some d) }
+        ensures before { IfOk result (λ before. before ≡ disk_in (held_under self.old name.now)) }
+        ensures stands { OnOk result (disk_in (held_under self.new name.now) ≡ Some d) }
         ensures err { OnErr result (held_under self.new name.now ≡ held_under self.old name.now) }
         ensures others { OthersHeld name.now self.old self.new }
         ensures faults { shelf_faults self.new ≡ shelf_faults self.old }
     {
         if self.is_taken(name) {
-            return Ok(self.replace(name, false, Some(d)));
+            return Ok(self.replace(name, Held::Stands(d)).into_disk());
         }
-        self.insert(name, false, Some(d))?;
+        self.insert(name, Held::Stands(d))?;
         Ok(None)
     }
 
     /// Takes the device that stands under the name, which then has none. None where no device stands
     /// there, which leaves the shelf as it was.
     pub fn take(&mut self, name: &str) -> Option<MemDisk>
-        ensures taken { result ≡ (held_under self.old name.now).disk }
+        ensures taken { result ≡ disk_in (held_under self.old name.now) }
         ensures absent { OnSome result (shelf_names self.new name.now ≡ Absent) }
         ensures none { IfNone result (held_under self.new name.now ≡ held_under self.old name.now) }
         ensures others { OthersHeld name.now self.old self.new }
         ensures faults { shelf_faults self.new ≡ shelf_faults self.old }
     {
         if self.stands(name) {
-            self.replace(name, false, None)
+            self.replace(name, Held::Absent).into_disk()
         } else {
             None
         }
@@ -89,20 +127,20 @@ impl MemShelf {
 
     /// Whether a device stands under the name.
     fn stands(&self, name: &str) -> bool
-        ensures { result ≡ is_some (held_under self.now name.now).disk }
+        ensures { result ≡ is_some (disk_in (held_under self.now name.now)) }
     {
         match self.find(name) {
-            Some(i) => self.places[i].disk.is_some(),
+            Some(i) => self.places[i].held.stands(),
             None => false,
         }
     }
 
-    /// Whether the device of the name is out. One may stand in its place.
+    /// Whether the device of the name is out.
     fn is_out(&self, name: &str) -> bool
-        ensures { result ≡ (held_under self.now name.now).out }
+        ensures { result ≡ is_out (held_under self.now name.now) }
     {
         match self.find(name) {
-            Some(i) => self.places[i].out,
+            Some(i) => self.places[i].held.is_out(),
             None => false,
         }
     }
@@ -114,50 +152,49 @@ impl MemShelf {
         self.is_out(name) || self.stands(name)
     }
 
-    /// Puts this under a name that is taken, and answers the device that stood there.
-    fn replace(&mut self, name: &str, out: bool, disk: Option<MemDisk>) -> Option<MemDisk>
+    /// Puts this under a name that is taken, and answers what was there.
+    fn replace(&mut self, name: &str, held: Held) -> Held
         requires { IsTrue (is_taken (held_under self.old name.now)) }
-        ensures before { result ≡ (held_under self.old name.now).disk }
-        ensures held { held_under self.new name.now ≡ record { out = out; disk = disk } }
+        ensures before { result ≡ held_under self.old name.now }
+        ensures held { held_under self.new name.now ≡ held }
         ensures others { OthersHeld name.now self.old self.new }
         ensures faults { shelf_faults self.new ≡ shelf_faults self.old }
     {
-        let i = self.find(name)?;
+        let i = self.find(name).unwrap();
         let place = &mut self.places[i];
-        place.out = out;
-        mem::replace(&mut place.disk, disk)
+        mem::replace(&mut place.held, held)
     }
 
-    /// Puts this under a name. Want of memory leaves the shelf as it was.
-    fn insert(&mut self, name: &str, out: bool, disk: Option<MemDisk>) -> Result<(), AllocError>
-        ensures held { OnOk result (held_under self.new name.now ≡ record { out = out; disk = disk }) }
+    /// Puts this under a name. Where it is out of memory, the shelf is as it was.
+    fn insert(&mut self, name: &str, held: Held) -> Result<(), AllocError>
+        ensures held { OnOk result (held_under self.new name.now ≡ held) }
         ensures err { OnErr result (held_under self.new name.now ≡ held_under self.old name.now) }
         ensures others { OthersHeld name.now self.old self.new }
         ensures faults { shelf_faults self.new ≡ shelf_faults self.old }
     {
         if let Some(i) = self.find(name) {
             let place = &mut self.places[i];
-            place.out = out;
-            place.disk = disk;
+            place.held = held;
             return Ok(());
         }
         let name = String::from_str(self.alloc, name)?;
-        self.places.push(Place { name, out, disk })?;
+        self.places.push(ShelfPlace { name, held })?;
         Ok(())
     }
 
     /// Makes a disk of zero bytes under a name that is free, which is then out.
     fn make(&mut self, name: &str, len: u64) -> Result<MemDisk, AllocError>
         ensures blank { IfOk result (λ disk. IsBlank len (disk_view disk)) }
+        ensures fresh { IfOk result (λ disk. IsFresh (replicate len 0) (disk_view disk)) }
         ensures failing { IfOk result (λ disk. failing_calls disk ≡ []) }
         ensures stop { IfOk result (λ disk. stop_call disk ≡ 2 ^ 63) }
-        ensures out { OnOk result (held_under self.new name.now ≡ record { out = true; disk = None }) }
+        ensures out { OnOk result (held_under self.new name.now ≡ Held.Out) }
         ensures err { OnErr result (held_under self.new name.now ≡ held_under self.old name.now) }
         ensures others { OthersHeld name.now self.old self.new }
         ensures faults { shelf_faults self.new ≡ shelf_faults self.old }
     {
         let disk = blank(self.alloc, len)?;
-        self.insert(name, true, None)?;
+        self.insert(name, Held::Out)?;
         Ok(disk)
     }
 }
@@ -165,6 +202,7 @@ impl MemShelf {
 /// A disk of zero bytes.
 fn blank(alloc: Global, len: u64) -> Result<MemDisk, AllocError>
     ensures blank { IfOk result (λ disk. IsBlank len (disk_view disk)) }
+    ensures fresh { IfOk result (λ disk. IsFresh (replicate len 0) (disk_view disk)) }
     ensures failing { IfOk result (λ disk. failing_calls disk ≡ []) }
     ensures stop { IfOk result (λ disk. stop_call disk ≡ 2 ^ 63) }
 {
@@ -173,11 +211,11 @@ fn blank(alloc: Global, len: u64) -> Result<MemDisk, AllocError>
 }
 
 impl Shelf for MemShelf {
-    ghost use Rattle.std.specs.Prelude.{◌≡◌, ◌≤◌, ◌^◌, [], Ok, option_map, IsOk, IfOk, IfSome, OnErr, OnOk};
+    ghost use Rattle.std.specs.Prelude.{◌≡◌, ◌≤◌, ◌^◌, [], replicate, Ok, option_map, IsOk, IfOk, IfSome, OnErr, OnOk};
     ghost use Rattle.zj_dev.specs.Fault.{Rose};
     ghost use Rattle.zj_dev.specs.Shelf.{OthersStay, Opens, Creates, FailsToCreate, Closes};
-    ghost use Rattle.zj_dev.specs.MemDisk.{disk_view, failing_calls, stop_call};
-    ghost use Rattle.zj_dev.specs.MemShelf.{Held, is_taken, held_under, shelf_names, shelf_faults};
+    ghost use Rattle.zj_dev.specs.MemDisk.{IsFresh, disk_view, failing_calls, stop_call};
+    ghost use Rattle.zj_dev.specs.MemShelf.{disk_in, held_under, shelf_names, shelf_faults};
 
     type D = MemDisk;
 
@@ -192,10 +230,10 @@ impl Shelf for MemShelf {
         ensures cause { OnErr result (Rose (shelf_faults self.old) (shelf_faults self.new)) }
         ensures quiet { OnOk result (shelf_faults self.new ≡ shelf_faults self.old) }
         ensures no_fewer { shelf_faults self.old ≤ shelf_faults self.new }
-        ensures taken { result ≡ Ok (held_under self.old name.now).disk }
+        ensures taken { result ≡ Ok (disk_in (held_under self.old name.now)) }
     {
         if self.stands(name) {
-            Ok(self.replace(name, true, None))
+            Ok(self.replace(name, Held::Out).into_disk())
         } else {
             Ok(None)
         }
@@ -208,6 +246,7 @@ impl Shelf for MemShelf {
         ensures cause { OnErr result (Rose (shelf_faults self.old) (shelf_faults self.new)) }
         ensures quiet { OnOk result (shelf_faults self.new ≡ shelf_faults self.old) }
         ensures no_fewer { shelf_faults self.old ≤ shelf_faults self.new }
+        ensures fresh { IfOk result (λ disk. IfSome disk (λ made. IsFresh (replicate len 0) (disk_view made))) }
         ensures failing { IfOk result (λ disk. IfSome disk (λ made. failing_calls made ≡ [])) }
         ensures stop { IfOk result (λ disk. IfSome disk (λ made. stop_call made ≡ 2 ^ 63)) }
     {
@@ -231,8 +270,8 @@ impl Shelf for MemShelf {
         ensures no_fewer { shelf_faults self.old ≤ shelf_faults self.new }
         ensures ok { IsOk result }
     {
-        if self.is_out(name) && !self.stands(name) {
-            let _ = self.replace(name, true, Some(d));
+        if self.is_out(name) {
+            let _ = self.replace(name, Held::Stands(d));
         }
         Ok(())
     }

@@ -2,7 +2,7 @@
 
 ghost use Rattle.std.specs.Prelude.{◌≡◌, ℕ, ◌≤◌, List, option_map, IfOk, OnErr, OnOk};
 ghost use Rattle.zj_dev.specs.Fault.{Rose};
-ghost use Rattle.zj_dev.specs.Shelf.{Names, OthersStay, Opens, Creates, FailsToCreate, Closes};
+ghost use Rattle.zj_dev.specs.Shelf.{ShelfView, OthersStay, Opens, Creates, FailsToCreate, Closes};
 
 use crate::disk::Disk;
 use thiserror::Error;
@@ -19,7 +19,7 @@ pub trait Shelf {
     type D: Disk;
 
     /// What stands under each name, where the shelf tells it.
-    ghost names: { Self → Names };
+    ghost names: { Self → ShelfView };
 
     /// How many calls have failed. One that answers Ok leaves the count.
     ghost faults: { Self → ℕ };

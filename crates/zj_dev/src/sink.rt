@@ -1,6 +1,6 @@
 //! Byte streams out of the program.
 
-ghost use Rattle.std.specs.Prelude.{◌≡◌, ℕ, ◌+◌, ◌<◌, ◌≤◌, ◌↔◌, List, [], ◌++◌, length, take, Option, Some, None, IsErr, IfOk, OnErr, Contains};
+ghost use Rattle.std.specs.Prelude.{◌≡◌, ℕ, ◌+◌, ◌<◌, ◌≤◌, ◌↔◌, List, [], ◌++◌, length, take, Option, Some, None, IsErr, IfOk, OnErr, OnOk, Contains};
 ghost use Rattle.zj_dev.specs.Fault.{Rose};
 ghost use Rattle.zj_dev.specs.Stream.{Took};
 
@@ -18,7 +18,7 @@ pub trait Sink {
     /// The bytes that the sink holds, where it tells them.
     ghost held: { Self → Option (List ℕ) };
 
-    /// How many writes have failed.
+    /// How many writes have failed. One that answers Ok leaves the count.
     ghost faults: { Self → ℕ };
 
     /// Adds some first bytes of the piece to those that the sink holds, and answers how many: at least
@@ -28,6 +28,7 @@ pub trait Sink {
         ensures some { IfOk result (λ n. 0 < length bytes.now → 0 < n) }
         ensures added { IfOk result (λ n. Took (held self.old) (held self.new) (take n bytes.now)) }
         ensures failed { OnErr result (held self.new ≡ held self.old) }
+        ensures quiet { OnOk result (faults self.new ≡ faults self.old) }
         ensures cause { OnErr result (Rose (faults self.old) (faults self.new)) }
         ensures no_fewer { faults self.old ≤ faults self.new };
 }
@@ -50,6 +51,7 @@ impl MemSink {
         ensures empty { IfOk result (λ sink. bytes_held sink ≡ []) }
         ensures failing { IfOk result (λ sink. failing_writes sink ≡ failing.now) }
         ensures fresh { IfOk result (λ sink. writes_made sink ≡ 0) }
+        ensures faults { IfOk result (λ sink. ⟦<MemSink as Sink>⟧.faults sink ≡ 0) }
     {
         Ok(MemSink {
             bytes: Vec::new(alloc),
@@ -68,7 +70,7 @@ impl MemSink {
 }
 
 impl Sink for MemSink {
-    ghost use Rattle.std.specs.Prelude.{◌≡◌, ℕ, ◌+◌, ◌-◌, ◌^◌, ◌<◌, ◌≤◌, length, take, Some, min, IsErr, IfOk, OnErr, Contains};
+    ghost use Rattle.std.specs.Prelude.{◌≡◌, ℕ, ◌+◌, ◌-◌, ◌^◌, ◌<◌, ◌≤◌, length, take, Some, min, IsErr, IfOk, OnErr, OnOk, Contains};
     ghost use Rattle.zj_dev.specs.Fault.{Rose};
     ghost use Rattle.zj_dev.specs.Stream.{Took};
     ghost use Rattle.zj_dev.specs.Memory.{bytes_held, failing_writes, writes_made};
@@ -82,6 +84,7 @@ impl Sink for MemSink {
         ensures some { IfOk result (λ n. 0 < length bytes.now → 0 < n) }
         ensures added { IfOk result (λ n. Took (Some (bytes_held self.old)) (Some (bytes_held self.new)) (take n bytes.now)) }
         ensures failed { OnErr result (Some (bytes_held self.new) ≡ Some (bytes_held self.old)) }
+        ensures quiet { OnOk result (self.new.faults ≡ self.old.faults) }
         ensures cause { OnErr result (Rose self.old.faults self.new.faults) }
         ensures no_fewer { self.old.faults ≤ self.new.faults }
         ensures fails { Contains (failing_writes self.old) (writes_made self.old) → IsErr result }
@@ -105,9 +108,13 @@ pub struct OutSink<W> {
     faults: u64,
 }
 
-impl<W> OutSink<W> {
+impl<W: Write> OutSink<W> {
+    ghost use Rattle.std.specs.Prelude.{◌≡◌};
+
     /// A sink over the writer.
-    pub fn new(writer: W) -> Self {
+    pub fn new(writer: W) -> Self
+        ensures { ⟦<OutSink<W> as Sink>⟧.faults result ≡ 0 }
+    {
         OutSink { writer, faults: 0 }
     }
 }

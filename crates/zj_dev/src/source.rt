@@ -1,6 +1,6 @@
 //! Byte streams into the program.
 
-ghost use Rattle.std.specs.Prelude.{◌≡◌, ℕ, ◌+◌, ◌<◌, ◌≤◌, ◌↔◌, List, [], length, take, drop, Option, Some, None, min, IsErr, IfOk, IfSome, OnErr, Contains};
+ghost use Rattle.std.specs.Prelude.{◌≡◌, ℕ, ◌+◌, ◌<◌, ◌≤◌, ◌↔◌, List, [], length, take, drop, Option, Some, None, min, IsErr, IfOk, IfSome, OnErr, OnOk, Contains};
 ghost use Rattle.zj_dev.specs.Fault.{Rose};
 ghost use Rattle.zj_dev.specs.Stream.{Gave};
 
@@ -18,7 +18,7 @@ pub trait Source {
     /// The bytes that are left, where the source tells them.
     ghost left: { Self → Option (List ℕ) };
 
-    /// How many reads have failed.
+    /// How many reads have failed. One that answers Ok leaves the count.
     ghost faults: { Self → ℕ };
 
     /// Moves some first bytes of what is left to the front of `into`, and answers how many: 0 for a
@@ -29,6 +29,7 @@ pub trait Source {
         ensures moved { IfOk result (λ n. Gave (left self.old) (left self.new) (take n into.new)) }
         ensures end { IfOk result (λ n. n ≡ 0 → 0 < length into.old → IfSome (left self.new) (λ rest. rest ≡ [])) }
         ensures failed { OnErr result (left self.new ≡ left self.old) }
+        ensures quiet { OnOk result (faults self.new ≡ faults self.old) }
         ensures cause { OnErr result (Rose (faults self.old) (faults self.new)) }
         ensures no_fewer { faults self.old ≤ faults self.new };
 }
@@ -52,6 +53,7 @@ impl MemSource {
         ensures bytes { IfOk result (λ source. bytes_left source ≡ bytes.now) }
         ensures failing { IfOk result (λ source. failing_reads source ≡ failing.now) }
         ensures fresh { IfOk result (λ source. reads_made source ≡ 0) }
+        ensures faults { IfOk result (λ source. ⟦<MemSource as Source>⟧.faults source ≡ 0) }
     {
         Ok(MemSource {
             bytes: Vec::from_slice(alloc, bytes)?,
@@ -64,7 +66,7 @@ impl MemSource {
 }
 
 impl Source for MemSource {
-    ghost use Rattle.std.specs.Prelude.{◌≡◌, ℕ, ◌+◌, ◌-◌, ◌^◌, ◌<◌, ◌≤◌, ◌↔◌, [], length, take, Some, min, IsErr, IfOk, IfSome, OnErr, Contains};
+    ghost use Rattle.std.specs.Prelude.{◌≡◌, ℕ, ◌+◌, ◌-◌, ◌^◌, ◌<◌, ◌≤◌, ◌↔◌, [], length, take, Some, min, IsErr, IfOk, IfSome, OnErr, OnOk, Contains};
     ghost use Rattle.zj_dev.specs.Fault.{Rose};
     ghost use Rattle.zj_dev.specs.Stream.{Gave};
     ghost use Rattle.zj_dev.specs.Memory.{bytes_left, failing_reads, reads_made};
@@ -78,6 +80,7 @@ impl Source for MemSource {
         ensures moved { IfOk result (λ n. Gave (Some (bytes_left self.old)) (Some (bytes_left self.new)) (take n into.new)) }
         ensures end { IfOk result (λ n. n ≡ 0 → 0 < length into.old → IfSome (Some (bytes_left self.new)) (λ rest. rest ≡ [])) }
         ensures failed { OnErr result (Some (bytes_left self.new) ≡ Some (bytes_left self.old)) }
+        ensures quiet { OnOk result (self.new.faults ≡ self.old.faults) }
         ensures cause { OnErr result (Rose self.old.faults self.new.faults) }
         ensures no_fewer { self.old.faults ≤ self.new.faults }
         ensures fails { IsErr result ↔ Contains (failing_reads self.old) (reads_made self.old) }
@@ -105,9 +108,13 @@ pub struct InSource<R> {
     faults: u64,
 }
 
-impl<R> InSource<R> {
+impl<R: Read> InSource<R> {
+    ghost use Rattle.std.specs.Prelude.{◌≡◌};
+
     /// A source over the reader.
-    pub fn new(reader: R) -> Self {
+    pub fn new(reader: R) -> Self
+        ensures { ⟦<InSource<R> as Source>⟧.faults result ≡ 0 }
+    {
         InSource { reader, faults: 0 }
     }
 }

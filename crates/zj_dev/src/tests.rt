@@ -147,6 +147,17 @@ fn a_disk_fails_and_tears_as_it_was_told(rt: HostRuntime) -> Result<(), Fail> {
 }
 
 #[test]
+fn a_fault_of_a_disk_is_handed_on(rt: HostRuntime) -> Result<(), Fail> {
+    let mut disk = MemDisk::new(rt.alloc(), b"0123", &[2, 3], None)?;
+    assert_eq!(rt; disk.len(), 4);
+    assert_eq!(rt; write_at(&mut disk, 1, b"ab"), Ok(()));
+    assert_eq!(rt; sync(&mut disk), Ok(()));
+    assert_eq!(rt; write_at(&mut disk, 1, b"cd"), Err(DiskFault));
+    assert_eq!(rt; sync(&mut disk), Err(DiskFault));
+    Ok(())
+}
+
+#[test]
 fn a_shelf_in_memory_keeps_its_devices(rt: HostRuntime) -> Result<(), Fail> {
     let mut shelf = MemShelf::new(rt.alloc())?;
     assert!(rt; shelf.open("home")?.is_none());
@@ -178,17 +189,17 @@ fn a_shelf_in_memory_keeps_its_devices(rt: HostRuntime) -> Result<(), Fail> {
 fn a_folder_keeps_its_files(rt: HostRuntime) -> Result<(), Fail> {
     let mut shelf = FolderShelf::new(&rt);
     assert!(rt; shelf.open("home")?.is_none());
-    let mut home = shelf.create("home", 6)?.ok_or("made")?;
+    let mut home = shelf.create("home", 4098)?.ok_or("made")?;
     assert!(rt; shelf.create("home", 6)?.is_none(), "taken");
-    assert_eq!(rt; home.len(), 6);
-    assert_eq!(rt; home.write(2, b"ab"), Ok(()));
+    assert_eq!(rt; home.len(), 4098);
+    assert_eq!(rt; home.write(4095, b"ab"), Ok(()));
     assert_eq!(rt; home.sync(), Ok(()));
     shelf.close("home", home)?;
 
     let mut home = shelf.open("home")?.ok_or("opened")?;
-    assert_eq!(rt; home.len(), 6);
+    assert_eq!(rt; home.len(), 4098);
     let mut bytes = [b'-'; 5];
-    assert_eq!(rt; home.read(0, &mut bytes), Ok(()));
+    assert_eq!(rt; home.read(4093, &mut bytes), Ok(()));
     assert_eq!(rt; bytes, *b"\0\0ab\0");
     assert_eq!(rt; home.calls(), 1);
     shelf.close("home", home)?;

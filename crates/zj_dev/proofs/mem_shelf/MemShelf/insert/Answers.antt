@@ -1,5 +1,5 @@
 use Rattle.std.proofs.Common.{◌∙◌, sym, refl, arith}
-use Rattle.zj_dev.specs.declared.mem_shelf.Place.{Place}
+use Rattle.zj_dev.specs.declared.mem_shelf.ShelfPlace.{ShelfPlace}
 use Rattle.zj_dev.proofs.Places.{found_within, found_set, found_others, pushed_held, pushed_others}
 use Rattle.zj_dev.proofs.mem_shelf.MemShelf.insert.Goals as goal
 
@@ -17,10 +17,10 @@ returns-in-Some-clause-others c = λ other differ.
 
 pub returns-clause-held : goal.returns-clause-held
 returns-clause-held c =
-    let new : Place = record { name = c.in_ok-name.name; out = c.args.out; disk = c.args.disk } in
+    let new : ShelfPlace = record { name = c.in_ok-name.name; held = c.args.held } in
     pushed_held c.args.name.now c.args.self.now.places.items c.push.new.self.items new (sym c.find.ensures ∙ c.in_default.is) c.in_ok-name.ensures.ok c.in_ok-push.ensures.items
 
 pub returns-clause-others : goal.returns-clause-others
 returns-clause-others c = λ other differ.
-    let new : Place = record { name = c.in_ok-name.name; out = c.args.out; disk = c.args.disk } in
+    let new : ShelfPlace = record { name = c.in_ok-name.name; held = c.args.held } in
     pushed_others c.args.name.now other c.args.self.now.places.items c.push.new.self.items new c.in_ok-name.ensures.ok c.in_ok-push.ensures.items differ

@@ -1,5 +1,6 @@
 use Rattle.std.proofs.Common.{◌∙◌, ap, sym, arith, is_some}
-use Rattle.zj_dev.specs.MemShelf.{Held}
+use Rattle.zj_dev.specs.MemShelf.{disk_in}
+use Rattle.zj_dev.specs.declared.mem_shelf.Held.{Held}
 use Rattle.zj_dev.proofs.Places.{found_within, found_held, none_held}
 use Rattle.zj_dev.proofs.mem_shelf.MemShelf.stands.Goals as goal
 
@@ -10,8 +11,8 @@ index-requires c =
 
 pub returns-in-Some : goal.returns-in-Some
 returns-in-Some c =
-    let e = ap (λ (held : Held). is_some held.disk) (found_held c.args.name.now c.args.self.now.places.items c.in-Some.i c.index.result.now (sym c.find.ensures ∙ c.in-Some.is) c.index.ensures) in
-    c.is_some.ensures ∙ sym e
+    let e = ap (λ (held : Held). is_some (disk_in held)) (found_held c.args.name.now c.args.self.now.places.items c.in-Some.i c.index.result.now (sym c.find.ensures ∙ c.in-Some.is) c.index.ensures) in
+    c.stands.ensures ∙ sym e
 
 pub returns-in-None : goal.returns-in-None
-returns-in-None c = ap (λ (held : Held). is_some held.disk) (sym (none_held c.args.name.now c.args.self.now.places.items (sym c.find.ensures ∙ c.in-None.is)))
+returns-in-None c = ap (λ (held : Held). is_some (disk_in held)) (sym (none_held c.args.name.now c.args.self.now.places.items (sym c.find.ensures ∙ c.in-None.is)))
