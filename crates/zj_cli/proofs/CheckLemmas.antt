@@ -17,7 +17,7 @@ use Rattle.zj_area.specs.Ring.{Holds, IsDamaged}
 use Rattle.zj_cli.specs.declared.status.Fault.{Fault}
 use Rattle.zj_cli.specs.declared.status.Fault.TheVariants as faults
 use Rattle.zj_cli.specs.declared.status.ImageFault.TheVariants as images
-use Rattle.zj_cli.specs.Check.{AllHold, Checks, HasHome, HasJournals, IsDeviceCause, IsImageCause, IsJournalCause, IsMissing, IsOpenCause, IsOpened, JournalHolds, OfDevice, OfJournal, OfLength, journal_text}
+use Rattle.zj_cli.specs.Check.{AllHold, Checks, HasHome, HasJournals, IsDeviceCause, IsImageCause, IsJournalCause, IsMissing, IsDevicesCause, IsOpened, JournalHolds, OfDevice, OfJournal, OfLength, journal_text}
 use Rattle.zj_cli.specs.Opening.{AllOpened, AreOpened, IsJournalsCause, IsOfSet, SomeOut}
 use Rattle.zj_cli.specs.Scanning.{AreCounted, AreaHolds, AreRead, HoldsSome, IsAreaCause, IsReadCause, Prints}
 use Rattle.zj_cli.specs.Set.{AllBack, IsBack, IsClosed, IsLent, IsNoJournal, IsOut, IsPutBack, home_name, journal_name}
@@ -65,7 +65,7 @@ module _ (before mid : Names) (stay : OthersStay home_name before mid) where
   }
 
   -- why the journals were not opened is why the set wasn't
-  pub set_cause : (now : Names) (f0 f1 f2 f3 : ℕ) (super : Super) (fault : Fault) → HasHome before super → f0 ≤ f1 → f2 ≤ f3 → IsJournalsCause mid f1 f2 super fault → IsOpenCause before now f0 f3 fault
+  pub set_cause : (now : Names) (f0 f1 f2 f3 : ℕ) (super : Super) (fault : Fault) → HasHome before super → f0 ≤ f1 → f2 ≤ f3 → IsJournalsCause mid f1 f2 super fault → IsDevicesCause before now f0 f3 fault
   set_cause now f0 f1 f2 f3 super fault home le le' cause = by_fault fault cause.3
     where
       missing : (device : Device) → (device ≡ devices.Journal cause.0) × IsMissing (mid (journal_name cause.0)) → IsImageCause before (images.Absent device)
@@ -83,7 +83,7 @@ module _ (before mid : Names) (stay : OthersStay home_name before mid) where
           subst (λ (d : Device). IsDeviceCause before now f0 f3 d) (sym is.0)
           (super, home, cause.1, inl (journals_before super cause.0 cause.2, rose_until f0 f2 f3 (rose_since f0 f1 f2 le is.1) le'))
 
-      by_fault : (fault : Fault) → IsJournalCause (mid (journal_name cause.0)) f1 f2 super cause.0 fault → IsOpenCause before now f0 f3 fault
+      by_fault : (fault : Fault) → IsJournalCause (mid (journal_name cause.0)) f1 f2 super cause.0 fault → IsDevicesCause before now f0 f3 fault
       by_fault (faults.Image (images.Absent device)) is = missing device is
       by_fault (faults.Image (images.Sizes device found expected)) is = long device found expected is
       by_fault (faults.Image (images.NotAnImage at)) is = absurd is
@@ -205,10 +205,10 @@ module _ {D : Type 0} (view : D → DiskView) (before mid now : Names) (home hom
       one (Some a) e h = of_area (λ sizes core image tail. (end : Tail) × Holds sizes core image tail printed.records end) 0 a e h
 
   -- and why nothing was is why the set is refused
-  pub read_cause : (f f' : ℕ) (fault : Fault) → IsReadCause view super old new fault → IsOpenCause before now f f' fault
-  read_cause f f' fault (inr (inr memory)) = subst (λ (x : Fault). IsOpenCause before now f f' x) (sym memory) tt
+  pub read_cause : (f f' : ℕ) (fault : Fault) → IsReadCause view super old new fault → IsDevicesCause before now f f' fault
+  read_cause f f' fault (inr (inr memory)) = subst (λ (x : Fault). IsDevicesCause before now f f' x) (sym memory) tt
   read_cause f f' fault (inr (inl many)) =
-      subst (λ (x : Fault). IsOpenCause before now f f' x) (sym many.0)
+      subst (λ (x : Fault). IsDevicesCause before now f f' x) (sym many.0)
       (refl, (super, record { home = has_home; journals = has_journals; hold = λ core below. all_hold many.2.0 (length old) many.2.1 core (omega (arith, opened.many)) }, many.1))
   read_cause f f' fault (inl stops) = at (slice_get old stops.1.core) (slice_get new stops.1.core) refl refl stops.1.here
     where
@@ -228,7 +228,7 @@ module _ {D : Type 0} (view : D → DiskView) (before mid now : Names) (home hom
           subst (λ (d : Device). IsImageCause before (images.Damaged d at found expected)) (sym e)
           (super, has_home, has_journals, (fits_at core a here).1, all_hold stops.0 core stops.1.counted, of_area (λ sizes core image tail. IsDamaged sizes core image tail at found expected) core a here is)
 
-      by_fault : (fault : Fault) (a b : AreaView D) → slice_get old stops.1.core ≡ Some a → slice_get new stops.1.core ≡ Some b → IsAreaCause view stops.1.core a b fault → IsOpenCause before now f f' fault
+      by_fault : (fault : Fault) (a b : AreaView D) → slice_get old stops.1.core ≡ Some a → slice_get new stops.1.core ≡ Some b → IsAreaCause view stops.1.core a b fault → IsDevicesCause before now f f' fault
       by_fault faults.Memory a b here there is = tt
       by_fault (faults.Device device) a b here there is = device_cause device a b here there is.0 is.1
       by_fault (faults.Image (images.Damaged device at found expected)) a b here there is = damaged device at found expected a here is.0 is.1
@@ -242,18 +242,18 @@ module _ {D : Type 0} (view : D → DiskView) (before mid now : Names) (home hom
       by_fault faults.Input a b here there is = is
       by_fault faults.Output a b here there is = is
 
-      at : (o o' : Option (AreaView D)) → slice_get old stops.1.core ≡ o → slice_get new stops.1.core ≡ o' → IsSomeAnd o (λ a. IsSomeAnd o' (λ b. IsAreaCause view stops.1.core a b fault)) → IsOpenCause before now f f' fault
+      at : (o o' : Option (AreaView D)) → slice_get old stops.1.core ≡ o → slice_get new stops.1.core ≡ o' → IsSomeAnd o (λ a. IsSomeAnd o' (λ b. IsAreaCause view stops.1.core a b fault)) → IsDevicesCause before now f f' fault
       at None o' e e' h = absurd h
       at (Some a) None e e' h = absurd h
       at (Some a) (Some b) e e' h = by_fault fault a b e e' h
 
   -- and why one of them was not closed
-  pub close_cause : (count old mid_count new_count : ℕ) (fault : Fault) → count ≡ super.sizes.cores → old ≤ mid_count → IsOfSet count fault × Rose mid_count new_count → IsOpenCause before now old new_count fault
-  close_cause count f f1 f2 fault many le (inl is, rose) = subst (λ (x : Fault). IsOpenCause before now f f2 x) (sym is) (inl (rose_since f f1 f2 le rose))
+  pub close_cause : (count f f1 f2 : ℕ) (fault : Fault) → count ≡ super.sizes.cores → f ≤ f1 → IsOfSet count fault × Rose f1 f2
+      → (device : Device) × (fault ≡ faults.Device device) × IsDeviceCause before now f f2 device × Rose f f2
+  close_cause count f f1 f2 fault many le (inl is, rose) = (devices.Home, is, inl (rose_since f f1 f2 le rose), rose_since f f1 f2 le rose)
   close_cause count f f1 f2 fault many le (inr is, rose) =
       let below : is.0 < super.sizes.cores = omega (arith, is.1, many) in
-      subst (λ (x : Fault). IsOpenCause before now f f2 x) (sym is.2)
-      (super, has_home, below, inl (λ core before. has_journals core (omega (arith, before, below)), rose_since f f1 f2 le rose))
+      (devices.Journal is.0, is.2, (super, has_home, below, inl (λ core before. has_journals core (omega (arith, before, below)), rose_since f f1 f2 le rose)), rose_since f f1 f2 le rose)
 
 -- what was out, was read and is closed
 pub closes : {D : Type 0} (view : D → DiskView) (before mid now : Names) (home : DiskView) (items old new : List (AreaView D)) (len : ℕ) → IsOut view before mid home items → old ≡ items → AreRead view old new → length new ≡ len
@@ -264,37 +264,8 @@ closes view before mid now home items old new len out same read many close =
     let close_new : IsOut view before mid home new → IsClosed view before now home new = subst (λ (l : List (AreaView _)). IsOut view before mid home l → IsClosed view before now home l) whole close in
     (out_old, close_new (out_read view before mid home old new out_old read))
 
-pub if_ok : {X Y P : Type 0} (r : Result X Y) → P → OnOk r P
-if_ok (Ok x) p = p
-if_ok (Err y) p = tt
-
-pub if_err : {X Y P : Type 0} (r : Result X Y) → P → OnErr r P
-if_err (Ok x) p = tt
-if_err (Err y) p = p
-
--- a fault is of the output, or of something else
-pub is_output : (fault : Fault) → (fault ≡ faults.Output) ⊎ (fault ≢ faults.Output)
-is_output faults.Output = inl refl
-is_output faults.Words = inr (λ e. cc)
-is_output (faults.Script kind line column) = inr (λ e. cc)
-is_output (faults.Image fault) = inr (λ e. cc)
-is_output (faults.Device device) = inr (λ e. cc)
-is_output faults.Memory = inr (λ e. cc)
-is_output faults.Input = inr (λ e. cc)
-
-pub same_fault : (a b : Fault) → ◌≡◌ {A = Result (Unit {0}) Fault} (Err a) (Err b) → a ≡ b
-same_fault a b e = cc
-
 -- as many are closed as were read
 pub as_many : {D : Type 0} (items new : List (AreaView D)) (len : ℕ) → length new ≡ len → length (take len (new ++ drop (length new) items)) ≡ len
 as_many items new len many =
     let whole : take len (new ++ drop (length new) items) ≡ new = take_at new (drop (length new) items) len many in
     ap length whole ∙ many
-
--- what is so of each fault
-pub each_fault : {T : Type 0} (result : Result T Fault) (P Q : Fault → Type 0) → ((fault : Fault) → P fault → Q fault) → IfErr result P → IfErr result Q
-each_fault (Ok x) P Q implies cause = tt
-each_fault (Err fault) P Q implies cause = implies fault cause
-
-pub of_err : {T : Type 0} (result : Result T Fault) (P : Fault → Type 0) (fault : Fault) → IfErr result P → result ≡ Err fault → P fault
-of_err result P fault cause e = rw e at cause

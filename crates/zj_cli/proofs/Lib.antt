@@ -1,7 +1,7 @@
-pub mod LineLemmas
 pub mod StreamLemmas
 pub mod WordLemmas
-pub mod LawLemmas
+pub mod Ends
+pub mod PlayLemmas
 pub mod SetLemmas
 pub mod OpenLemmas
 pub mod ScanLemmas

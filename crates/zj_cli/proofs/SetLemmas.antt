@@ -9,7 +9,7 @@ use Rattle.zj_dev.specs.Shelf.{Closes, Names, Slot, Untold, Absent, Out, Stands}
 use Rattle.zj_home.specs.Home.{IsCause}
 use Rattle.zj_home.specs.declared.fault.HomeFault.{HomeFault}
 use Rattle.zj_home.specs.declared.fault.HomeFault.TheVariants as homes
-use Rattle.zj_cli.specs.Check.{IsOpenCause, OfDevice, OfLength, RoseUnder, fault_of_home}
+use Rattle.zj_cli.specs.Check.{IsDevicesCause, OfDevice, OfLength, RoseUnder, fault_of_home}
 use Rattle.zj_cli.specs.Set.{IsBack, IsLent, IsPutBack, IsTaken, home_name, journal_name}
 
 -- ---- names
@@ -124,7 +124,7 @@ rose_put Absent now from d put least rose = absurd put
 rose_put Out now from d put least rose = absurd put
 
 -- why a home was refused
-pub home_cause : (before now : Names) (old new : ℕ) (mid : Slot) (d d' : DiskView) (fault : HomeFault) → IsTaken (before home_name) mid d → OnlyReads d d' → Closes d' mid (now home_name) → IsCause d d' fault → IsOpenCause before now old new (fault_of_home fault)
+pub home_cause : (before now : Names) (old new : ℕ) (mid : Slot) (d d' : DiskView) (fault : HomeFault) → IsTaken (before home_name) mid d → OnlyReads d d' → Closes d' mid (now home_name) → IsCause d d' fault → IsDevicesCause before now old new (fault_of_home fault)
 home_cause before now old new mid d d' homes.DiskFault taken reads closes cause =
     inr (rose_put (before home_name) (now home_name) d d' (put_after (before home_name) mid (now home_name) d' (lent_after (before home_name) mid d d' taken reads) closes) (stood_is (before home_name) taken) cause)
   where

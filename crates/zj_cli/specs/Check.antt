@@ -1,7 +1,8 @@
 -- What `check` prints, and why it refuses an image. A shelf may leave devices and their bytes untold: nothing is said of those.
-use Rattle.std.specs.Prelude.{◌≡◌, ◌≢◌, ◌⊎◌, ℕ, ◌<◌, List, [], ◌∷◌, ◌++◌, length, Some, None, IfSome, slice_get, codes, decimal, ⊤}
+use Rattle.std.specs.Prelude.{◌≡◌, ◌≢◌, ◌⊎◌, ℕ, ◌<◌, List, [], ◌∷◌, ◌++◌, length, Option, Some, None, IfSome, slice_get, codes, decimal, ⊤}
 use Rattle.zj_block.specs.declared.numbers.Tail.{Tail}
 use Rattle.zj_dev.specs.Fault.{Rose}
+use Rattle.zj_dev.specs.Stream.{Took}
 use Rattle.zj_dev.specs.Shelf.{Names, Slot, Untold, Absent, Out, Stands}
 use Rattle.zj_dev.specs.declared.device.Device.{Device}
 use Rattle.zj_dev.specs.declared.device.Device.TheVariants as devices
@@ -15,7 +16,8 @@ use Rattle.zj_cli.specs.declared.status.ImageFault.{ImageFault}
 use Rattle.zj_cli.specs.declared.status.ImageFault.TheVariants as images
 use Rattle.zj_cli.specs.declared.status.Fault.{Fault}
 use Rattle.zj_cli.specs.declared.status.Fault.TheVariants as faults
-use Rattle.zj_cli.specs.Set.{home_name, journal_name}
+use Rattle.zj_cli.specs.Outside.{IsUnwritten, MeetsNoFault, Outside}
+use Rattle.zj_cli.specs.Set.{AllBack, home_name, journal_name}
 
 -- a device stands there, and its bytes have this property
 abbrev pub OfDevice : Slot → (List ℕ → Type 0) → Type 0
@@ -90,12 +92,19 @@ RoseUnder (Stands old) Out = ⊥
 RoseUnder Absent now = ⊥
 RoseUnder Out now = ⊥
 
--- Why a device failed: the shelf failed to open or to close it, and the shelf's count of faults rose; or it failed to be
--- read, and its own count rose. What comes before it is in order.
+-- Why a device failed: the shelf failed to open or to close it, and the shelf's count of faults rose from `old` to `new`; or it
+-- failed to be read, and its own count rose. What comes before it is in order.
 abbrev pub IsDeviceCause : Names → Names → ℕ → ℕ → Device → Type 0
 IsDeviceCause before now old new devices.Home = Rose old new ⊎ RoseUnder (before home_name) (now home_name)
 IsDeviceCause before now old new (devices.Journal core) = (super : Super) × HasHome before super × (core < super.sizes.cores) × ((HasJournals before super core × Rose old new)
     ⊎ (HasJournals before super super.sizes.cores × AllHold before super core × RoseUnder (before (journal_name core)) (now (journal_name core))))
+
+-- why the devices were not all opened, read and closed
+abbrev pub IsDevicesCause : Names → Names → ℕ → ℕ → Fault → Type 0
+IsDevicesCause before now old new (faults.Image fault) = IsImageCause before fault
+IsDevicesCause before now old new (faults.Device device) = IsDeviceCause before now old new device
+IsDevicesCause before now old new faults.Memory = ⊤
+IsDevicesCause before now old new fault = ⊥
 
 -- the line of a core's journal: `jC from NUMBER found COUNT kept COUNT`
 abbrev pub journal_text : ℕ → ℕ → ℕ → ℕ → List ℕ
@@ -111,30 +120,33 @@ pub record Checks (names : Names) (text : List ℕ) : Type 0 where
   pub holds : JournalHolds names super 0 records
   pub text_is : IfSome (slice_get super.tails 0) (λ tail. text ≡ journal_text 0 tail.number (length records) (length records))
 
--- Why the devices of an image were not opened or read.
-abbrev pub IsOpenCause : Names → Names → ℕ → ℕ → Fault → Type 0
-IsOpenCause before now old new (faults.Image fault) = IsImageCause before fault
-IsOpenCause before now old new (faults.Device device) = IsDeviceCause before now old new device
-IsOpenCause before now old new faults.Memory = ⊤
-IsOpenCause before now old new faults.Words = ⊥
-IsOpenCause before now old new (faults.Script kind line column) = ⊥
-IsOpenCause before now old new faults.Input = ⊥
-IsOpenCause before now old new faults.Output = ⊥
+-- The text of the image was written but for the rest.
+pub record Tells (before after : Outside) (rest : List ℕ) : Type 0 where
+  pub written : List ℕ
+  pub text : Checks before.names (written ++ rest)
+  pub took : Took before.held after.held written
+
+-- How `check` ends.
+abbrev pub CheckEnds : Outside → Outside → Option Fault → Type 0
+CheckEnds before after None = Tells before after [] × MeetsNoFault before after
+CheckEnds before after (Some (faults.Image fault)) = IsImageCause before.names fault × IsUnwritten before after
+CheckEnds before after (Some (faults.Device device)) = IsDeviceCause before.names after.names before.shelf_faults after.shelf_faults device × (IsUnwritten before after ⊎ (Tells before after [] × Rose before.shelf_faults after.shelf_faults))
+CheckEnds before after (Some faults.Memory) = IsUnwritten before after
+CheckEnds before after (Some faults.Output) = ((rest : List ℕ) × Tells before after rest) × Rose before.output_faults after.output_faults
+CheckEnds before after (Some fault) = ⊥
+
+-- What `check` does: however it ends, each device stands again where it stood, and was only read.
+pub record RunsCheck (before after : Outside) (fault : Option Fault) : Type 0 where
+  pub back : AllBack before.names after.names
+  pub ends : CheckEnds before after fault
 
 -- Why the journal of a core was not opened: it is missing or of another length, or the shelf failed.
 abbrev pub IsJournalCause : Slot → ℕ → ℕ → Super → ℕ → Fault → Type 0
 IsJournalCause slot old new super core (faults.Image (images.Absent device)) = (device ≡ devices.Journal core) × IsMissing slot
 IsJournalCause slot old new super core (faults.Image (images.Sizes device found expected)) = (device ≡ devices.Journal core) × OfLength slot (λ len. (len ≡ found) × (expected ≡ super.sizes.area) × (found ≢ expected))
-IsJournalCause slot old new super core (faults.Image (images.NotAnImage at)) = ⊥
-IsJournalCause slot old new super core (faults.Image (images.Version found)) = ⊥
-IsJournalCause slot old new super core (faults.Image (images.Damaged device at found expected)) = ⊥
-IsJournalCause slot old new super core (faults.Image (images.Unbuilt device)) = ⊥
 IsJournalCause slot old new super core (faults.Device device) = (device ≡ devices.Journal core) × Rose old new
 IsJournalCause slot old new super core faults.Memory = ⊤
-IsJournalCause slot old new super core faults.Words = ⊥
-IsJournalCause slot old new super core (faults.Script kind line column) = ⊥
-IsJournalCause slot old new super core faults.Input = ⊥
-IsJournalCause slot old new super core faults.Output = ⊥
+IsJournalCause slot old new super core fault = ⊥
 
 -- the fault of a home that was not opened
 abbrev pub fault_of_home : HomeFault → Fault
@@ -148,12 +160,3 @@ fault_of_home homes.NoMemory = faults.Memory
 abbrev pub IsOpened : {D : Type 0} → Super → ℕ → AreaView D → Type 0
 IsOpened super core area = IfSome (slice_get super.tails core) (λ tail. area ≡ opened area.device super.sizes core tail)
 
--- a fault that comes before anything is written
-abbrev pub IsEarly : Fault → Type 0
-IsEarly (faults.Image fault) = ⊤
-IsEarly faults.Memory = ⊤
-IsEarly faults.Words = ⊤
-IsEarly (faults.Script kind line column) = ⊤
-IsEarly faults.Input = ⊤
-IsEarly (faults.Device device) = ⊥
-IsEarly faults.Output = ⊥

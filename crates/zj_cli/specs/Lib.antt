@@ -1,8 +1,6 @@
-pub mod Script
-pub mod Answers
-pub mod Play
+pub mod Outside
 pub mod Tool
-pub mod Laws
+pub mod Play
 pub mod Set
 pub mod Check
 pub mod Opening

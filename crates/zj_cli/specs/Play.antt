@@ -1,15 +1,71 @@
--- What `play` answers.
-use Rattle.std.specs.Prelude.{ℕ, List}
+-- What `play` does, by the fault that it ends with.
+use Rattle.std.specs.Prelude.{◌≡◌, ◌⊎◌, ℕ, ◌+◌, ◌≤◌, List, [], ◌∷◌, ◌++◌, length, Option, Some, None, IfSome}
 use Rattle.std.specs.List.{flat_map}
-use Rattle.zj_tree.specs.Tree.{root_alone}
-use Rattle.zj_tree.specs.Apply.{Limits}
-use Rattle.zj_cli.specs.declared.script.Line.{Line}
-use Rattle.zj_cli.specs.Answers.{answers_from, answer_text}
+use Rattle.zj_dev.specs.Fault.{Rose}
+use Rattle.zj_dev.specs.Stream.{Gave, Took}
+use Rattle.zj_tree.specs.Tree.{FileTree}
+use Rattle.zj_tree.specs.Apply.{Limits, apply}
+use Rattle.zj_script.specs.declared.answer.Answer.{Answer}
+use Rattle.zj_script.specs.declared.line.Line.{Line}
+use Rattle.zj_script.specs.Answers.{answer_text}
+use Rattle.zj_script.specs.Script.{IsScript}
+use Rattle.zj_cli.specs.declared.status.Fault.{Fault}
+use Rattle.zj_cli.specs.declared.status.Fault.TheVariants as faults
+use Rattle.zj_cli.specs.Outside.{IsUnwritten, MeetsNoFault, Outside}
 
 -- the tree of `play` has room for 8 entries, the root among them, and 62 blocks
 abbrev pub play_limits : Limits
 play_limits = record { nodes = 8; room = 62; version = 1 }
 
--- the text of the answers of a script, from the root alone and ticket 0 on
-abbrev pub answers_text : List Line → List ℕ
-answers_text lines = flat_map answer_text (answers_from play_limits root_alone 0 lines)
+-- the answer to a line that draws a ticket: its reply is the service's in that tree
+abbrev pub answer_to : Limits → FileTree → ℕ → Line → Answer
+answer_to limits tree ticket line = record { line = line.number; core = line.core; ticket = ticket; reply = (apply limits line.call tree).0 }
+
+-- The answers to lines in order, with tickets that rise from a ticket on: each reply is the service's after the calls before it.
+abbrev pub answers_from : Limits → FileTree → ℕ → List Line → List Answer
+answers_from limits tree ticket [] = []
+answers_from limits tree ticket (line ∷ lines) = answer_to limits tree ticket line ∷ answers_from limits (apply limits line.call tree).1 (ticket + 1) lines
+
+-- A source gave these bytes, one more at most than a script may have.
+pub record Reads (old new : Option (List ℕ)) (read : List ℕ) : Type 0 where
+  pub gave : Gave old new read
+  pub at_most : length read ≤ 16777217
+
+-- It gave all that it had, or that one byte more.
+pub record ReadsInput (old new : Option (List ℕ)) (read : List ℕ) : Type 0 where
+  pub reads : Reads old new read
+  pub to_end : IfSome new (λ rest. rest ≡ []) ⊎ (length read ≡ 16777217)
+
+-- What was read is a script for so many cores, and the answers to its lines, from a tree on, were written but for the rest.
+pub record Plays (cores : ℕ) (limits : Limits) (tree : FileTree) (before after : Outside) (rest : List ℕ) : Type 0 where
+  pub read : List ℕ
+  pub lines : List Line
+  pub answers : List Answer
+  pub written : List ℕ
+  pub input : ReadsInput before.left after.left read
+  pub is_script : IsScript cores read lines
+  pub answers_fit : answers ≡ answers_from limits tree 0 lines
+  pub text : written ++ rest ≡ flat_map answer_text answers
+  pub took : Took before.held after.held written
+
+-- What was read is no script for so many cores.
+pub record RefusesScript (cores : ℕ) (before after : Outside) : Type 0 where
+  pub read : List ℕ
+  pub input : ReadsInput before.left after.left read
+  pub none : (lines : List Line) → IsScript cores read lines → ⊥
+  pub unwritten : IsUnwritten before after
+
+-- Reading stopped early, or memory ran out.
+pub record StopsEarly (before after : Outside) : Type 0 where
+  pub read : List ℕ
+  pub reads : Reads before.left after.left read
+  pub unwritten : IsUnwritten before after
+
+-- How `play` ends, for so many cores and from a tree on.
+abbrev pub PlayEnds : ℕ → Limits → FileTree → Outside → Outside → Option Fault → Type 0
+PlayEnds cores limits tree before after None = Plays cores limits tree before after [] × MeetsNoFault before after
+PlayEnds cores limits tree before after (Some (faults.Script kind line column)) = RefusesScript cores before after × (kind ≡ 0) × (line ≡ 0) × (column ≡ 0)
+PlayEnds cores limits tree before after (Some faults.Memory) = StopsEarly before after
+PlayEnds cores limits tree before after (Some faults.Input) = StopsEarly before after × Rose before.input_faults after.input_faults
+PlayEnds cores limits tree before after (Some faults.Output) = ((rest : List ℕ) × Plays cores limits tree before after rest) × Rose before.output_faults after.output_faults
+PlayEnds cores limits tree before after (Some fault) = ⊥

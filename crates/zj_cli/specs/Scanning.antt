@@ -33,15 +33,7 @@ abbrev pub IsAreaCause : {D : Type 0} → (D → DiskView) → ℕ → AreaView 
 IsAreaCause view core old new faults.Memory = ⊤
 IsAreaCause view core old new (faults.Device device) = (device ≡ devices.Journal core) × Rose (view old.device).faults (view new.device).faults
 IsAreaCause view core old new (faults.Image (images.Damaged device at found expected)) = (device ≡ devices.Journal core) × IfSome (view old.device).bytes (λ image. IsDamaged old.sizes old.core image old.tail at found expected)
-IsAreaCause view core old new (faults.Image (images.Absent device)) = ⊥
-IsAreaCause view core old new (faults.Image (images.NotAnImage at)) = ⊥
-IsAreaCause view core old new (faults.Image (images.Version found)) = ⊥
-IsAreaCause view core old new (faults.Image (images.Sizes device found expected)) = ⊥
-IsAreaCause view core old new (faults.Image (images.Unbuilt device)) = ⊥
-IsAreaCause view core old new faults.Words = ⊥
-IsAreaCause view core old new (faults.Script kind line column) = ⊥
-IsAreaCause view core old new faults.Input = ⊥
-IsAreaCause view core old new faults.Output = ⊥
+IsAreaCause view core old new fault = ⊥
 
 -- why the areas were not all read: those before one were, and that one was not
 pub record StopsAt {D : Type 0} (view : D → DiskView) (old new : List (AreaView D)) (counts : List ℕ) (fault : Fault) : Type 0 where

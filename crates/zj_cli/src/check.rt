@@ -1,14 +1,15 @@
 //! `check`: what the journals of an image hold.
 
-ghost use Rattle.std.specs.Prelude.{◌≡◌, ◌≢◌, ◌≤◌, ◌⊎◌, List, ℕ, ◌++◌, IfOk, IfErr, OnOk, OnErr, Err, Some, ◌<◌, length, slice_get, string_bytes};
+ghost use Rattle.std.specs.Prelude.{◌≡◌, ◌⊎◌, List, ℕ, ◌++◌, IfOk, IfErr, OnOk, Some, Option, ◌<◌, length, slice_get, string_bytes};
+ghost use Rattle.std.specs.Result.{result_err};
 ghost use Rattle.zj_dev.specs.Fault.{Rose};
 ghost use Rattle.zj_dev.specs.Stream.{Took};
-ghost use Rattle.zj_dev.specs.declared.device.Device.{Device};
 ghost use Rattle.zj_cli.specs.declared.status.Fault.TheVariants as faults;
-ghost use Rattle.zj_cli.specs.Check.{Checks, IsEarly, IsOpenCause, journal_text};
+ghost use Rattle.zj_cli.specs.declared.tool.Command.TheVariants as commands;
+ghost use Rattle.zj_cli.specs.Check.{RunsCheck, journal_text};
 ghost use Rattle.zj_cli.specs.Opening.{AllOpened};
 ghost use Rattle.zj_cli.specs.Scanning.{AreRead, IsReadCause, Prints};
-ghost use Rattle.zj_cli.specs.Set.{AllBack};
+ghost use Rattle.zj_cli.specs.Tool.{IsBeforeWriting};
 
 use crate::close::close_set;
 use crate::scan::scan_all;
@@ -72,39 +73,29 @@ fn print_set<D: Disk, K: Sink>(
     out: &mut K,
 ) -> Result<(), Fault>
     requires { AllOpened home.now.told areas.old }
-    ensures done { OnOk result ((text : List ℕ) × Prints D.view home.now.told areas.old text × Took (K.held out.old) (K.held out.new) text) }
-    ensures output { result ≡ Err faults.Output → (front rest : List ℕ) × Prints D.view home.now.told areas.old (front ++ rest) × Took (K.held out.old) (K.held out.new) front }
-    ensures output_rose { result ≡ Err faults.Output → Rose (K.faults out.old) (K.faults out.new) }
-    ensures unwritten { OnErr result (result ≢ Err faults.Output → out.new ≡ out.old) }
+    ensures printed { OnOk result ((text : List ℕ) × Prints D.view home.now.told areas.old text × Took (K.held out.old) (K.held out.new) text) }
+    ensures quiet { OnOk result (K.faults out.new ≡ K.faults out.old) }
+    ensures cause { IfErr result (λ fault. ((fault ≡ faults.Output) × ((front rest : List ℕ) × Prints D.view home.now.told areas.old (front ++ rest) × Took (K.held out.old) (K.held out.new) front) × Rose (K.faults out.old) (K.faults out.new))
+        ⊎ (IsReadCause D.view home.now.told areas.old areas.new fault × (out.new ≡ out.old))) }
     ensures read { AreRead D.view areas.old areas.new }
-    ensures cause { IfErr result (λ fault. (fault ≡ faults.Output) ⊎ IsReadCause D.view home.now.told areas.old areas.new fault) }
 {
     let text = read_set(alloc, home, areas)?;
-    match write_whole(out, text.as_bytes()) {
-        Ok(()) => Ok(()),
-        Err(_) => Err(Fault::Output),
-    }
+    write_whole(out, text.as_bytes())
 }
 
 /// Prints what the journals of the image on a shelf hold. It writes no device, and all that it opened is
-/// closed again. After Ok no call of the shelf has failed.
+/// closed again. It stands for any input, since it reads none.
 ///
 /// The first fault in this order counts: opening, reading the journals, writing to `out`, closing.
 pub fn check<H: Shelf, K: Sink>(alloc: Global, shelf: &mut H, out: &mut K) -> Result<(), Fault>
-    ensures back { AllBack (H.names shelf.old) (H.names shelf.new) }
-    ensures done { OnOk result ((text : List ℕ) × Checks (H.names shelf.old) text × Took (K.held out.old) (K.held out.new) text) }
-    ensures output { result ≡ Err faults.Output → (front rest : List ℕ) × Checks (H.names shelf.old) (front ++ rest) × Took (K.held out.old) (K.held out.new) front }
-    ensures output_rose { result ≡ Err faults.Output → Rose (K.faults out.old) (K.faults out.new) }
-    ensures unwritten { IfErr result (λ fault. IsEarly fault → out.new ≡ out.old) }
-    ensures closing { (device : Device) → result ≡ Err (faults.Device device) → (out.new ≡ out.old) ⊎ (Rose (H.faults shelf.old) (H.faults shelf.new) × ((text : List ℕ) × Checks (H.names shelf.old) text × Took (K.held out.old) (K.held out.new) text)) }
-    ensures quiet { OnOk result (H.faults shelf.new ≡ H.faults shelf.old) }
-    ensures cause { IfErr result (λ fault. (fault ≡ faults.Output) ⊎ IsOpenCause (H.names shelf.old) (H.names shelf.new) (H.faults shelf.old) (H.faults shelf.new) fault) }
+    ensures runs { (left : Option (List ℕ)) (input_faults : ℕ) → RunsCheck
+        (record { left = left; held = K.held out.old; names = H.names shelf.old; input_faults = input_faults; output_faults = K.faults out.old; shelf_faults = H.faults shelf.old })
+        (record { left = left; held = K.held out.new; names = H.names shelf.new; input_faults = input_faults; output_faults = K.faults out.new; shelf_faults = H.faults shelf.new })
+        (result_err result) }
+    ensures unwritten { IfErr result (λ fault. IsBeforeWriting commands.Check fault → out.new ≡ out.old) }
 {
     let Set { home, mut areas } = open_set(alloc, shelf)?;
     let printed = print_set(alloc, &home, &mut areas, out);
     let closed = close_set(shelf, home, areas);
-    match printed {
-        Ok(()) => closed,
-        Err(fault) => Err(fault),
-    }
+    printed.and(closed)
 }

@@ -2,13 +2,10 @@
 //! the bytes of the output and the status.
 #![tactic(auto)]
 
-mod answer;
 mod check;
 mod close;
-pub mod laws;
 mod play;
 mod scan;
-mod script;
 mod set;
 mod status;
 mod stream;
@@ -17,5 +14,5 @@ mod tool;
 pub use status::{Fault, ImageFault, Status};
 pub use tool::zj_tool;
 
-#[cfg(test)]
-mod tests;
+
+

@@ -5,7 +5,7 @@ ghost use Rattle.zj_dev.specs.declared.device.Device.TheVariants as devices;
 ghost use Rattle.zj_dev.specs.Device.{device_name};
 ghost use Rattle.zj_dev.specs.Fault.{Rose};
 ghost use Rattle.zj_dev.specs.Shelf.{Names, OthersStay};
-ghost use Rattle.zj_cli.specs.Check.{HasHome, HasJournals, IsJournalCause, IsMissing, IsOpenCause, IsOpened, OfLength, fault_of_home};
+ghost use Rattle.zj_cli.specs.Check.{HasHome, HasJournals, IsJournalCause, IsMissing, IsDevicesCause, IsOpened, OfLength, fault_of_home};
 ghost use Rattle.zj_cli.specs.declared.status.Fault.TheVariants as faults;
 ghost use Rattle.zj_cli.specs.declared.status.ImageFault.TheVariants as images;
 ghost use Rattle.zj_cli.specs.Opening.{AllOpened, AreOpened, IsJournalsCause, SomeOut};
@@ -80,7 +80,7 @@ fn open_home<H: Shelf>(alloc: Global, shelf: &mut H) -> Result<Home<H::D>, Fault
     ensures home { IfOk result (λ home. HasHome (H.names shelf.old) home.told) }
     ensures back { OnErr result (IsBack (H.names shelf.old home_name) (H.names shelf.new home_name)) }
     ensures others { OthersStay home_name (H.names shelf.old) (H.names shelf.new) }
-    ensures cause { IfErr result (IsOpenCause (H.names shelf.old) (H.names shelf.new) (H.faults shelf.old) (H.faults shelf.new)) }
+    ensures cause { IfErr result (IsDevicesCause (H.names shelf.old) (H.names shelf.new) (H.faults shelf.old) (H.faults shelf.new)) }
     ensures quiet { OnOk result (H.faults shelf.new ≡ H.faults shelf.old) }
     ensures no_fewer { H.faults shelf.old ≤ H.faults shelf.new }
 {
@@ -175,7 +175,7 @@ pub(crate) fn open_set<H: Shelf>(alloc: Global, shelf: &mut H) -> Result<Set<H::
     ensures journals { IfOk result (λ set. HasJournals (H.names shelf.old) set.home.told set.home.told.sizes.cores) }
     ensures opened { IfOk result (λ set. AllOpened set.home.told set.areas.items) }
     ensures back { OnErr result (AllBack (H.names shelf.old) (H.names shelf.new)) }
-    ensures cause { IfErr result (IsOpenCause (H.names shelf.old) (H.names shelf.new) (H.faults shelf.old) (H.faults shelf.new)) }
+    ensures cause { IfErr result (IsDevicesCause (H.names shelf.old) (H.names shelf.new) (H.faults shelf.old) (H.faults shelf.new)) }
     ensures quiet { OnOk result (H.faults shelf.new ≡ H.faults shelf.old) }
     ensures no_fewer { H.faults shelf.old ≤ H.faults shelf.new }
 {

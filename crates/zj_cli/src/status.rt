@@ -2,9 +2,9 @@
 
 ghost use Rattle.std.specs.Prelude.{◌≡◌, option_copied};
 
-use std::alloc::{AllocError, AllocFailed};
+use std::alloc::AllocError;
 use thiserror::Error;
-use zj_dev::Device;
+use zj_dev::{Device, ReadFailed, WriteFailed};
 
 /// Why an image is refused.
 #[derive(Clone, Copy, Debug, PartialEq, Eq, Error)]
@@ -63,7 +63,7 @@ pub enum Fault {
     /// The device failed, or its shelf did.
     #[error("device {device}")]
     Device { device: Device },
-    /// There was no memory.
+    /// It ran out of memory.
     #[error("memory")]
     Memory,
     /// The input failed.
@@ -91,6 +91,28 @@ impl From<AllocError> for Fault {
 
     fn from(_error: AllocError) -> Fault {
         Fault::Memory
+    }
+}
+
+impl From<ReadFailed> for Fault {
+    ghost use Rattle.std.specs.Prelude.{◌≡◌};
+    ghost use Rattle.zj_cli.specs.declared.status.Fault.TheVariants.{Input};
+
+    ghost from_gives = { λ _ fault. fault ≡ Input };
+
+    fn from(_error: ReadFailed) -> Fault {
+        Fault::Input
+    }
+}
+
+impl From<WriteFailed> for Fault {
+    ghost use Rattle.std.specs.Prelude.{◌≡◌};
+    ghost use Rattle.zj_cli.specs.declared.status.Fault.TheVariants.{Output};
+
+    ghost from_gives = { λ _ fault. fault ≡ Output };
+
+    fn from(_error: WriteFailed) -> Fault {
+        Fault::Output
     }
 }
 

@@ -1,21 +1,19 @@
 //! The top call.
 
-ghost use Rattle.std.specs.Prelude.{◌≡◌, ◌≢◌, ◌⊎◌, ◌≤◌, ◌↔◌, ℕ, List, [], ◌++◌, length, map, string_bytes, Some, None, Ok, Err, OnOk, OnErr, IfOk, IfErr, IfSome, IfNone, IsTrue};
-ghost use Rattle.zj_dev.specs.Fault.{Rose};
-ghost use Rattle.zj_dev.specs.Stream.{Gave, Took};
-ghost use Rattle.zj_dev.specs.declared.device.Device.{Device};
-ghost use Rattle.zj_cli.specs.declared.status.Fault.{Fault};
+ghost use Rattle.std.specs.Prelude.{◌≡◌, ◌↔◌, map, string_bytes, Some, IfSome, IfNone, option_map};
+ghost use Rattle.std.specs.Result.{result_err};
+ghost use Rattle.zj_tree.specs.Tree.{root_alone};
 ghost use Rattle.zj_cli.specs.declared.status.Fault.TheVariants as faults;
-ghost use Rattle.zj_cli.specs.declared.status.ImageFault.{ImageFault};
-ghost use Rattle.zj_cli.specs.Check.{Checks, IsDeviceCause, IsEarly, IsImageCause, IsOpenCause};
-ghost use Rattle.zj_cli.specs.Set.{AllBack};
-ghost use Rattle.zj_cli.specs.Tool.{fault_of, IsCheck, IsPlay, IsPlayFault, IsSpelled, Plays, RefusesScript};
+ghost use Rattle.zj_cli.specs.declared.tool.Command.{Command};
+ghost use Rattle.zj_cli.specs.declared.tool.Command.TheVariants as commands;
+ghost use Rattle.zj_cli.specs.Check.{RunsCheck};
+ghost use Rattle.zj_cli.specs.Outside.{Outside};
+ghost use Rattle.zj_cli.specs.Play.{PlayEnds, play_limits};
+ghost use Rattle.zj_cli.specs.Tool.{Asks, IsBeforeWriting, fault_of};
 
 use crate::check::check;
 use crate::play::play;
-use crate::script::parse_script;
 use crate::status::{Fault, Status};
-use crate::stream::{read_whole, write_whole};
 use std::alloc::Global;
 use zj_dev::{Shelf, Sink, Source};
 
@@ -29,8 +27,8 @@ use zj_dev::{Shelf, Sink, Source};
 /// writes no device, and closes all that it opened.
 ///
 /// The first fault in this order counts: the words; opening the devices and reading them; reading the input;
-/// the script; writing to `out`; closing the devices. Memory may be short at any time. After a fault of the
-/// output a front of what was to be written is written.
+/// the script; writing to `out`; closing the devices. It may run out of memory at any time. After a fault of
+/// the output a front of what was to be written is written.
 pub fn zj_tool<H: Shelf, S: Source, K: Sink>(
     alloc: Global,
     words: &[String],
@@ -38,32 +36,30 @@ pub fn zj_tool<H: Shelf, S: Source, K: Sink>(
     input: &mut S,
     out: &mut K,
 ) -> Status
-    ensures words { (fault_of result ≡ Some faults.Words) ↔ (IsPlay (map string_bytes words.now) ⊎ IsCheck (map string_bytes words.now) → ⊥) }
-    ensures untouched { fault_of result ≡ Some faults.Words → (input.new ≡ input.old) × (shelf.new ≡ shelf.old) }
+    // What each command does, by the fault that it ends with.
+    ensures words { (fault_of result ≡ Some faults.Words) ↔ ((command : Command) → Asks (map string_bytes words.now) command → ⊥) }
+    ensures play {
+        let before : Outside = record { left = S.left input.old; held = K.held out.old; names = H.names shelf.old; input_faults = S.faults input.old; output_faults = K.faults out.old; shelf_faults = H.faults shelf.old } in
+        let after : Outside = record { left = S.left input.new; held = K.held out.new; names = H.names shelf.new; input_faults = S.faults input.new; output_faults = K.faults out.new; shelf_faults = H.faults shelf.new } in
+        Asks (map string_bytes words.now) commands.Play → PlayEnds 1 play_limits root_alone before after (fault_of result)
+    }
+    ensures check {
+        let before : Outside = record { left = S.left input.old; held = K.held out.old; names = H.names shelf.old; input_faults = S.faults input.old; output_faults = K.faults out.old; shelf_faults = H.faults shelf.old } in
+        let after : Outside = record { left = S.left input.new; held = K.held out.new; names = H.names shelf.new; input_faults = S.faults input.new; output_faults = K.faults out.new; shelf_faults = H.faults shelf.new } in
+        Asks (map string_bytes words.now) commands.Check → RunsCheck before after (fault_of result)
+    }
 
-    // Of `play`.
-    ensures read { (read : List ℕ) × Gave (S.left input.old) (S.left input.new) read × (length read ≤ 16777217) }
-    ensures done { IsPlay (map string_bytes words.now) → fault_of result ≡ None → Plays (S.left input.old) (S.left input.new) (K.held out.old) (K.held out.new) [] }
-    ensures script { (kind line column : ℕ) → fault_of result ≡ Some (faults.Script kind line column) → RefusesScript (S.left input.old) (S.left input.new) }
-    ensures input { fault_of result ≡ Some faults.Input → Rose (S.faults input.old) (S.faults input.new) }
-    ensures output { IsPlay (map string_bytes words.now) → fault_of result ≡ Some faults.Output → (rest : List ℕ) × Plays (S.left input.old) (S.left input.new) (K.held out.old) (K.held out.new) rest }
-    ensures apart { IsPlay (map string_bytes words.now) → shelf.new ≡ shelf.old }
-
-    // Of `check`.
-    ensures checked { IsCheck (map string_bytes words.now) → fault_of result ≡ None → (text : List ℕ) × Checks (H.names shelf.old) text × Took (K.held out.old) (K.held out.new) text }
-    ensures image { (fault : ImageFault) → fault_of result ≡ Some (faults.Image fault) → IsImageCause (H.names shelf.old) fault }
-    ensures device { (device : Device) → fault_of result ≡ Some (faults.Device device) → IsDeviceCause (H.names shelf.old) (H.names shelf.new) (H.faults shelf.old) (H.faults shelf.new) device }
-    ensures front { IsCheck (map string_bytes words.now) → fault_of result ≡ Some faults.Output → (front rest : List ℕ) × Checks (H.names shelf.old) (front ++ rest) × Took (K.held out.old) (K.held out.new) front }
-    ensures closing { (device : Device) → fault_of result ≡ Some (faults.Device device) → (out.new ≡ out.old) ⊎ (Rose (H.faults shelf.old) (H.faults shelf.new) × ((text : List ℕ) × Checks (H.names shelf.old) text × Took (K.held out.old) (K.held out.new) text)) }
-    ensures unread { IsCheck (map string_bytes words.now) → input.new ≡ input.old }
-
-    // Of both.
-    ensures back { AllBack (H.names shelf.old) (H.names shelf.new) }
-    ensures quiet { fault_of result ≡ None → H.faults shelf.new ≡ H.faults shelf.old }
-    ensures output_rose { fault_of result ≡ Some faults.Output → Rose (K.faults out.old) (K.faults out.new) }
-    ensures unwritten { IfSome (fault_of result) (λ fault. IsEarly fault → out.new ≡ out.old) }
+    // What is left as it was.
+    ensures untouched { fault_of result ≡ Some faults.Words → (input.new ≡ input.old) × (shelf.new ≡ shelf.old) × (out.new ≡ out.old) }
+    ensures shelf_untouched { Asks (map string_bytes words.now) commands.Play → shelf.new ≡ shelf.old }
+    ensures input_untouched { Asks (map string_bytes words.now) commands.Check → input.new ≡ input.old }
+    ensures unwritten { (command : Command) → Asks (map string_bytes words.now) command → IfSome (fault_of result) (λ fault. IsBeforeWriting command fault → out.new ≡ out.old) }
 {
-    Status::new(run(alloc, words, shelf, input, out).err())
+    match read_words(words) {
+        Some(Command::Play) => Status::new(play(alloc, input, out).err()),
+        Some(Command::Check) => Status::new(check(alloc, shelf, out).err()),
+        None => Status::new(Some(Fault::Words)),
+    }
 }
 
 /// What the words ask for.
@@ -73,10 +69,10 @@ enum Command {
     Check,
 }
 
-/// The command that the words are, if they are one.
+/// The command that the words ask for, if they ask for one.
 fn read_words(words: &[String]) -> Option<Command>
-    ensures some { IfSome result (IsSpelled (map string_bytes words.now)) }
-    ensures none { IfNone result (IsPlay (map string_bytes words.now) ⊎ IsCheck (map string_bytes words.now) → ⊥) }
+    ensures some { IfSome result (Asks (map string_bytes words.now)) }
+    ensures none { IfNone result ((command : Command) → Asks (map string_bytes words.now) command → ⊥) }
 {
     let [word] = words else {
         return None;
@@ -85,61 +81,5 @@ fn read_words(words: &[String]) -> Option<Command>
         "play" => Some(Command::Play),
         "check" => Some(Command::Check),
         _ => None,
-    }
-}
-
-/// Runs the command that the words are.
-fn run<H: Shelf, S: Source, K: Sink>(
-    alloc: Global,
-    words: &[String],
-    shelf: &mut H,
-    input: &mut S,
-    out: &mut K,
-) -> Result<(), Fault>
-    ensures words { (result ≡ Err faults.Words) ↔ (IsPlay (map string_bytes words.now) ⊎ IsCheck (map string_bytes words.now) → ⊥) }
-    ensures untouched { result ≡ Err faults.Words → (input.new ≡ input.old) × (shelf.new ≡ shelf.old) }
-    ensures read { (read : List ℕ) × Gave (S.left input.old) (S.left input.new) read × (length read ≤ 16777217) }
-    ensures done { IsPlay (map string_bytes words.now) → OnOk result (Plays (S.left input.old) (S.left input.new) (K.held out.old) (K.held out.new) []) }
-    ensures script { (kind line column : ℕ) → result ≡ Err (faults.Script kind line column) → RefusesScript (S.left input.old) (S.left input.new) }
-    ensures input { result ≡ Err faults.Input → Rose (S.faults input.old) (S.faults input.new) }
-    ensures output { IsPlay (map string_bytes words.now) → result ≡ Err faults.Output → (rest : List ℕ) × Plays (S.left input.old) (S.left input.new) (K.held out.old) (K.held out.new) rest }
-    ensures apart { IsPlay (map string_bytes words.now) → shelf.new ≡ shelf.old }
-    ensures checked { IsCheck (map string_bytes words.now) → OnOk result ((text : List ℕ) × Checks (H.names shelf.old) text × Took (K.held out.old) (K.held out.new) text) }
-    ensures image { (fault : ImageFault) → result ≡ Err (faults.Image fault) → IsImageCause (H.names shelf.old) fault }
-    ensures device { (device : Device) → result ≡ Err (faults.Device device) → IsDeviceCause (H.names shelf.old) (H.names shelf.new) (H.faults shelf.old) (H.faults shelf.new) device }
-    ensures front { IsCheck (map string_bytes words.now) → result ≡ Err faults.Output → (front rest : List ℕ) × Checks (H.names shelf.old) (front ++ rest) × Took (K.held out.old) (K.held out.new) front }
-    ensures closing { (device : Device) → result ≡ Err (faults.Device device) → (out.new ≡ out.old) ⊎ (Rose (H.faults shelf.old) (H.faults shelf.new) × ((text : List ℕ) × Checks (H.names shelf.old) text × Took (K.held out.old) (K.held out.new) text)) }
-    ensures unread { IsCheck (map string_bytes words.now) → input.new ≡ input.old }
-    ensures back { AllBack (H.names shelf.old) (H.names shelf.new) }
-    ensures quiet { OnOk result (H.faults shelf.new ≡ H.faults shelf.old) }
-    ensures output_rose { result ≡ Err faults.Output → Rose (K.faults out.old) (K.faults out.new) }
-    ensures unwritten { IfErr result (λ fault. IsEarly fault → out.new ≡ out.old) }
-{
-    match read_words(words) {
-        Some(Command::Play) => play_input(alloc, input, out),
-        Some(Command::Check) => check(alloc, shelf, out),
-        None => Err(Fault::Words),
-    }
-}
-
-/// Reads a script, makes its calls, and writes their answers.
-fn play_input<S: Source, K: Sink>(alloc: Global, input: &mut S, out: &mut K) -> Result<(), Fault>
-    ensures read { (read : List ℕ) × Gave (S.left input.old) (S.left input.new) read × (length read ≤ 16777217) }
-    ensures done { OnOk result (Plays (S.left input.old) (S.left input.new) (K.held out.old) (K.held out.new) []) }
-    ensures script { (kind line column : ℕ) → result ≡ Err (faults.Script kind line column) → RefusesScript (S.left input.old) (S.left input.new) }
-    ensures input { result ≡ Err faults.Input → Rose (S.faults input.old) (S.faults input.new) }
-    ensures output { result ≡ Err faults.Output → (rest : List ℕ) × Plays (S.left input.old) (S.left input.new) (K.held out.old) (K.held out.new) rest }
-    ensures output_rose { result ≡ Err faults.Output → Rose (K.faults out.old) (K.faults out.new) }
-    ensures unwritten { OnErr result (result ≢ Err faults.Output → out.new ≡ out.old) }
-    ensures kinds { IfErr result IsPlayFault }
-{
-    let script = read_whole(alloc, input)?;
-    let Some(lines) = parse_script(alloc, &script)? else {
-        return Err(Fault::NO_SCRIPT);
-    };
-    let answers = play(alloc, &lines)?;
-    match write_whole(out, &answers) {
-        Ok(()) => Ok(()),
-        Err(_) => Err(Fault::Output),
     }
 }
