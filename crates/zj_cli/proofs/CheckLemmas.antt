@@ -18,7 +18,7 @@ use Rattle.zj_cli.specs.declared.status.Fault.{Fault}
 use Rattle.zj_cli.specs.declared.status.Fault.TheVariants as faults
 use Rattle.zj_cli.specs.declared.status.ImageFault.TheVariants as images
 use Rattle.zj_cli.specs.Check.{AllHold, Checks, HasHome, HasJournals, IsDeviceCause, IsImageCause, IsJournalCause, IsMissing, IsDevicesCause, IsOpened, JournalHolds, OfDevice, OfJournal, OfLength, journal_text}
-use Rattle.zj_cli.specs.Opening.{AllOpened, AreOpened, IsJournalsCause, IsOfSet, SomeOut}
+use Rattle.zj_cli.specs.Opening.{AllOpened, AreOpened, IsJournalsCause, IsOfSet}
 use Rattle.zj_cli.specs.Scanning.{AreCounted, AreaHolds, AreRead, HoldsSome, IsAreaCause, IsReadCause, Prints}
 use Rattle.zj_cli.specs.Set.{AllBack, IsBack, IsClosed, IsLent, IsNoJournal, IsOut, IsPutBack, home_name, journal_name}
 use Rattle.zj_cli.proofs.OpenLemmas.{match_option}
@@ -53,15 +53,6 @@ module _ (before mid : Names) (stay : OthersStay home_name before mid) where
         (λ e was. back_same (before (journal_name core)) (now (journal_name core)) (was ∙ same_journal core))
         (λ area e was. subst (λ (s : Slot). IsLent s (now (journal_name core)) (view area.device)) (same_journal core) was.0) (opened.journals core fits);
     others = λ name other none. opened.others name none ∙ stay name other;
-  }
-
-  pub some_out_too : {D : Type 0} (view : D → DiskView) (now : Names) (home : DiskView) (areas : List (AreaView D)) → IsLent (before home_name) (mid home_name) home → SomeOut view mid now areas → IsOut view before now home areas
-  some_out_too view now home areas lent out = record {
-    home_lent = subst (λ (s : Slot). IsLent (before home_name) s home) (sym (out.others home_name not_home)) lent;
-    journals = λ core fits. match_option (slice_get areas core)
-        (λ e was. subst (λ (s : Slot). IsBack s (now (journal_name core))) (same_journal core) was)
-        (λ area e was. subst (λ (s : Slot). IsLent s (now (journal_name core)) (view area.device)) (same_journal core) was) (out.journals core fits);
-    others = λ name other none. out.others name none ∙ stay name other;
   }
 
   -- why the journals were not opened is why the set wasn't

@@ -7,3 +7,4 @@ pub mod OpenLemmas
 pub mod ScanLemmas
 pub mod CloseLemmas
 pub mod CheckLemmas
+pub mod Refused

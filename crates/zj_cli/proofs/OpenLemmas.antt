@@ -12,7 +12,7 @@ use Rattle.zj_cli.specs.declared.status.Fault.{Fault}
 use Rattle.zj_cli.specs.declared.status.Fault.TheVariants as faults
 use Rattle.zj_cli.specs.declared.status.ImageFault.TheVariants as images
 use Rattle.zj_cli.specs.Check.{IsJournalCause, IsOpened, OfLength}
-use Rattle.zj_cli.specs.Opening.{AreOpened, SomeOut}
+use Rattle.zj_cli.specs.Opening.{AreOpened, StopsOpening}
 use Rattle.zj_cli.specs.Set.{IsBack, IsLent, journal_name}
 use Rattle.zj_cli.proofs.SetLemmas.{back_same, journals_differ, rose_since}
 
@@ -79,32 +79,18 @@ module _ {D : Type 0} (view : D → DiskView) (before : Names) (super : Super) w
                 ]
           ]
 
-  -- a fault on the way
-  pub some_out : (now new : Names) (count : ℕ) (areas : List (AreaView D)) → count < 8 → AreOpened view before now super count areas → OthersStay (journal_name count) now new → IsBack (now (journal_name count)) (new (journal_name count)) → SomeOut view before new areas
-  some_out now new count areas small so_far stay back =
-      let here : now (journal_name count) ≡ before (journal_name count) = rw (slice_get_past areas count (omega (arith, so_far.many))) at (so_far.journals count small) in
+  -- the next one was refused
+  pub stops : (now new : Names) (count : ℕ) (areas : List (AreaView D)) (refused : Option D) → count < 8 → AreOpened view before now super count areas → OthersStay (journal_name count) now new
+      → MatchOption refused (new (journal_name count) ≡ now (journal_name count)) (λ d. IsLent (now (journal_name count)) (new (journal_name count)) (view d)) → StopsOpening view before new super areas refused
+  stops now new count areas refused small so_far stay next =
+      let many = so_far.many in
       record {
-        journals = λ core fits.
-            elim (cases_eq core count) [
-              | inl e ↦
-                  let past : slice_get areas core ≡ None = slice_get_past areas core (omega (arith, so_far.many)) in
-                  let there : IsBack (before (journal_name core)) (new (journal_name core)) =
-                  subst (λ (k : ℕ). IsBack (before (journal_name k)) (new (journal_name k))) (sym e) (subst (λ (s : Slot). IsBack s (new (journal_name count))) here back) in
-                  rw past there
-              | inr other ↦
-                  let same : new (journal_name core) ≡ now (journal_name core) = stay (journal_name core) (journals_differ core count fits small other) in
-                  match_option (slice_get areas core) (λ e was. back_same (before (journal_name core)) (new (journal_name core)) (same ∙ was))
-                  (λ area e was. subst (λ (s : Slot). IsLent (before (journal_name core)) s (view area.device)) (sym same) was.0) (so_far.journals core fits)
-            ];
-        others = λ name none. stay name (none count small) ∙ so_far.others name none;
+        mid = now;
+        few = omega (arith, many);
+        opened = subst (λ (k : ℕ). AreOpened view before now super k areas) (sym many) so_far;
+        others = subst (λ (k : ℕ). OthersStay (journal_name k) now new) (sym many) stay;
+        next = subst (λ (k : ℕ). MatchOption refused (new (journal_name k) ≡ now (journal_name k)) (λ d. IsLent (now (journal_name k)) (new (journal_name k)) (view d))) (sym many) next;
       }
-
-  -- and where no call was made
-  pub some_out_now : (now : Names) (count : ℕ) (areas : List (AreaView D)) → AreOpened view before now super count areas → SomeOut view before now areas
-  some_out_now now count areas so_far = record {
-    journals = λ core fits. match_option (slice_get areas core) (λ e was. back_same (before (journal_name core)) (now (journal_name core)) was) (λ area e was. was.0) (so_far.journals core fits);
-    others = so_far.others;
-  }
 
 -- a fault since an earlier count
 pub journal_cause_since : (slot : Slot) (old mid new : ℕ) (super : Super) (core : ℕ) (fault : Fault) → old ≤ mid → IsJournalCause slot mid new super core fault → IsJournalCause slot old new super core fault

@@ -1,7 +1,7 @@
 -- The journals of an image as they are taken out of their shelf, one after the other.
-use Rattle.std.specs.Prelude.{◌≡◌, ◌⊎◌, ℕ, ◌<◌, ◌≤◌, List, length, IfSome, MatchOption, slice_get}
+use Rattle.std.specs.Prelude.{◌≡◌, ◌⊎◌, ℕ, ◌<◌, ◌≤◌, List, length, Option, IfSome, MatchOption, slice_get}
 use Rattle.zj_dev.specs.Disk.{DiskView}
-use Rattle.zj_dev.specs.Shelf.{Names}
+use Rattle.zj_dev.specs.Shelf.{Names, OthersStay}
 use Rattle.zj_dev.specs.declared.device.Device.TheVariants as devices
 use Rattle.zj_area.specs.Journal.{AreaView}
 use Rattle.zj_home.specs.Super.{Super}
@@ -18,10 +18,14 @@ pub record AreOpened {D : Type 0} (view : D → DiskView) (before now : Names) (
       (λ area. IsLent (before (journal_name core)) (now (journal_name core)) (view area.device) × IsOpened super core area)
   pub others : (name : List ℕ) → IsNoJournal name → now name ≡ before name
 
--- Some were taken out, and all else is back.
-pub record SomeOut {D : Type 0} (view : D → DiskView) (before now : Names) (areas : List (AreaView D)) : Type 0 where
-  pub journals : (core : ℕ) → core < 8 → MatchOption (slice_get areas core) (IsBack (before (journal_name core)) (now (journal_name core))) (λ area. IsLent (before (journal_name core)) (now (journal_name core)) (view area.device))
-  pub others : (name : List ℕ) → IsNoJournal name → now name ≡ before name
+-- Opening stopped at the next journal: those before it are out, its own device is out where it was taken out, and all else is
+-- as it was.
+pub record StopsOpening {D : Type 0} (view : D → DiskView) (before now : Names) (super : Super) (areas : List (AreaView D)) (refused : Option D) : Type 0 where
+  pub mid : Names
+  pub few : length areas < 8
+  pub opened : AreOpened view before mid super (length areas) areas
+  pub others : OthersStay (journal_name (length areas)) mid now
+  pub next : MatchOption refused (now (journal_name (length areas)) ≡ mid (journal_name (length areas))) (λ d. IsLent (mid (journal_name (length areas))) (now (journal_name (length areas))) (view d))
 
 -- why one of them was not opened: those before it were
 abbrev pub IsJournalsCause : Names → ℕ → ℕ → Super → Fault → Type 0

@@ -1,5 +1,5 @@
 -- The devices of an image that are out of their shelf, and what stands under their names.
-use Rattle.std.specs.Prelude.{◌≡◌, ◌≢◌, ℕ, ◌<◌, List, MatchOption, slice_get}
+use Rattle.std.specs.Prelude.{◌≡◌, ◌≢◌, ℕ, ◌<◌, List, MatchOption, slice_get, bytes_eq, if◌then◌else◌}
 use Rattle.zj_dev.specs.Disk.{DiskView, OnlyReads}
 use Rattle.zj_dev.specs.Shelf.{Names, Slot, Untold, Absent, Out, Stands}
 use Rattle.zj_dev.specs.Device.{device_name}
@@ -12,6 +12,10 @@ home_name = device_name devices.Home
 
 abbrev pub journal_name : ℕ → List ℕ
 journal_name core = device_name (devices.Journal core)
+
+-- names of which one has another slot
+abbrev pub with_slot : List ℕ → Slot → Names → Names
+with_slot name slot names other = if bytes_eq other name then slot else names other
 
 -- the name of no core's journal
 abbrev pub IsNoJournal : List ℕ → Type 0

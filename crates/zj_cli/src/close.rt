@@ -4,8 +4,9 @@ ghost use Rattle.std.specs.Prelude.{◌≡◌, ◌≢◌, ℕ, List, ◌<◌, �
 ghost use Rattle.zj_dev.specs.Fault.{Rose};
 ghost use Rattle.zj_dev.specs.Shelf.{Names, OthersStay, Closes};
 ghost use Rattle.zj_cli.specs.declared.status.Fault.TheVariants as faults;
-ghost use Rattle.zj_cli.specs.Opening.{IsOfJournal, IsOfSet};
-ghost use Rattle.zj_cli.specs.Set.{IsClosed, IsOut, journal_name};
+ghost use Rattle.zj_home.specs.Super.{Super};
+ghost use Rattle.zj_cli.specs.Opening.{IsOfJournal, IsOfSet, StopsOpening};
+ghost use Rattle.zj_cli.specs.Set.{AllBack, IsClosed, IsLent, IsOut, home_name, journal_name};
 
 use crate::set::{HOME, journal_name};
 use crate::status::Fault;
@@ -67,4 +68,27 @@ pub(crate) fn close_set<H: Shelf>(
 {
     let closed = put_back(shelf, Device::Home, HOME, home.into_device());
     closed.and(close_areas(shelf, areas))
+}
+
+/// Puts the devices of an image back that was not opened whole: home, the journals that were opened, and then the
+/// one that was refused, where it is out.
+pub(crate) fn close_refused<H: Shelf>(
+    shelf: &mut H,
+    home: Home<H::D>,
+    areas: Vec<Area<H::D>>,
+    refused: Option<H::D>,
+)
+    requires { length areas.items < 8 }
+    ensures back { (before mid : Names) (super : Super) → OthersStay home_name before mid → IsLent (before home_name) (mid home_name) (H.D.view home.device)
+        → StopsOpening H.D.view mid (H.names shelf.old) super areas.items refused → AllBack before (H.names shelf.new) }
+    ensures no_fewer { H.faults shelf.old ≤ H.faults shelf.new }
+{
+    let name = journal_name(areas.len() as u32);
+    let _ = close_set(shelf, home, areas);
+    match refused {
+        Some(d) => {
+            let _ = shelf.close(name, d);
+        }
+        None => {}
+    }
 }

@@ -8,10 +8,10 @@ ghost use Rattle.zj_dev.specs.Shelf.{Names, OthersStay};
 ghost use Rattle.zj_cli.specs.Check.{HasHome, HasJournals, IsJournalCause, IsMissing, IsDevicesCause, IsOpened, OfLength, fault_of_home};
 ghost use Rattle.zj_cli.specs.declared.status.Fault.TheVariants as faults;
 ghost use Rattle.zj_cli.specs.declared.status.ImageFault.TheVariants as images;
-ghost use Rattle.zj_cli.specs.Opening.{AllOpened, AreOpened, IsJournalsCause, SomeOut};
+ghost use Rattle.zj_cli.specs.Opening.{AllOpened, AreOpened, IsJournalsCause, StopsOpening};
 ghost use Rattle.zj_cli.specs.Set.{AllBack, IsBack, IsLent, IsOut, IsTaken, home_name, journal_name};
 
-use crate::close::close_set;
+use crate::close::close_refused;
 use crate::status::{Fault, ImageFault};
 use std::alloc::Global;
 use zj_area::Area;
@@ -94,66 +94,83 @@ fn open_home<H: Shelf>(alloc: Global, shelf: &mut H) -> Result<Home<H::D>, Fault
     }
 }
 
+/// A journal that was not opened: why, and its device where that is out of the shelf.
+#[derive(Debug)]
+struct Refused<D: Disk> {
+    fault: Fault,
+    device: Option<D>,
+}
+
 /// Takes the journal of a core out of its shelf, if it is as long as the image says.
 fn open_journal<H: Shelf>(
     alloc: Global,
     shelf: &mut H,
     home: &Home<H::D>,
     core: u32,
-) -> Result<Area<H::D>, Fault>
+) -> Result<Area<H::D>, Refused<H::D>>
     requires { core < home.now.told.sizes.cores }
     ensures lent { IfOk result (λ area. IsLent (H.names shelf.old (journal_name core)) (H.names shelf.new (journal_name core)) (H.D.view area.device)) }
     ensures area { IfOk result (IsOpened home.now.told core) }
     ensures length { OnOk result (OfLength (H.names shelf.old (journal_name core)) (λ len. len ≡ home.now.told.sizes.area)) }
-    ensures back { OnErr result (IsBack (H.names shelf.old (journal_name core)) (H.names shelf.new (journal_name core))) }
+    ensures refused { IfErr result (λ refused. MatchOption refused.device (H.names shelf.new (journal_name core) ≡ H.names shelf.old (journal_name core)) (λ d. IsLent (H.names shelf.old (journal_name core)) (H.names shelf.new (journal_name core)) (H.D.view d))) }
     ensures others { OthersStay (journal_name core) (H.names shelf.old) (H.names shelf.new) }
-    ensures cause { IfErr result (IsJournalCause (H.names shelf.old (journal_name core)) (H.faults shelf.old) (H.faults shelf.new) home.now.told core) }
+    ensures cause { IfErr result (λ refused. IsJournalCause (H.names shelf.old (journal_name core)) (H.faults shelf.old) (H.faults shelf.new) home.now.told core refused.fault) }
     ensures quiet { OnOk result (H.faults shelf.new ≡ H.faults shelf.old) }
     ensures no_fewer { H.faults shelf.old ≤ H.faults shelf.new }
 {
     let device = Device::Journal(core);
     let cores = home.sizes().cores();
     prove!(core < cores);
-    let name = journal_name(core);
-    let d = take_out(shelf, device, name)?;
+    let d = match take_out(shelf, device, journal_name(core)) {
+        Ok(d) => d,
+        Err(fault) => return Err(Refused { fault, device: None }),
+    };
     let found = d.len();
     let expected = home.sizes().area();
     if found != expected {
-        let _ = shelf.close(name, d);
-        return Err(Fault::Image(ImageFault::Sizes {
+        let fault = Fault::Image(ImageFault::Sizes {
             device,
             found,
             expected,
-        }));
+        });
+        return Err(Refused {
+            fault,
+            device: Some(d),
+        });
     }
     let tail = home.tail(core).unwrap();
     match Area::open(alloc, d, core, home.sizes(), tail) {
         Ok(area) => Ok(area),
-        Err(returned) => {
-            let _ = shelf.close(name, returned.device);
-            Err(Fault::Memory)
-        }
+        Err(returned) => Err(Refused {
+            fault: Fault::Memory,
+            device: Some(returned.device),
+        }),
     }
 }
 
 /// Takes the journals of an image out of their shelf, in the order of the cores. After a fault those that
-/// were taken are in `areas`.
+/// were opened are in `areas`.
 fn open_journals<H: Shelf>(
     alloc: Global,
     shelf: &mut H,
     home: &Home<H::D>,
     areas: &mut Vec<Area<H::D>>,
-) -> Result<(), Fault>
+) -> Result<(), Refused<H::D>>
     requires { areas.old.items ≡ [] }
     ensures opened { OnOk result (AreOpened H.D.view (H.names shelf.old) (H.names shelf.new) home.now.told home.now.told.sizes.cores areas.new.items) }
-    ensures left { OnErr result (SomeOut H.D.view (H.names shelf.old) (H.names shelf.new) areas.new.items) }
-    ensures few { length areas.new.items ≤ 8 }
-    ensures cause { IfErr result (IsJournalsCause (H.names shelf.old) (H.faults shelf.old) (H.faults shelf.new) home.now.told) }
+    ensures few { OnOk result (length areas.new.items ≤ 8) }
+    ensures stops { IfErr result (λ refused. StopsOpening H.D.view (H.names shelf.old) (H.names shelf.new) home.now.told areas.new.items refused.device) }
+    ensures cause { IfErr result (λ refused. IsJournalsCause (H.names shelf.old) (H.faults shelf.old) (H.faults shelf.new) home.now.told refused.fault) }
     ensures quiet { OnOk result (H.faults shelf.new ≡ H.faults shelf.old) }
     ensures no_fewer { H.faults shelf.old ≤ H.faults shelf.new }
 {
     for core in 0..home.sizes().cores() {
-        areas.reserve(1)?;
+        if areas.reserve(1).is_err() {
+            return Err(Refused {
+                fault: Fault::Memory,
+                device: None,
+            });
+        }
         let area = open_journal(alloc, shelf, home, core)?;
         areas.push(area).unwrap();
     }
@@ -183,8 +200,8 @@ pub(crate) fn open_set<H: Shelf>(alloc: Global, shelf: &mut H) -> Result<Set<H::
     let mut areas = Vec::new(alloc);
     match open_journals(alloc, shelf, &home, &mut areas) {
         Ok(()) => Ok(Set { home, areas }),
-        Err(fault) => {
-            let _ = close_set(shelf, home, areas);
+        Err(Refused { fault, device }) => {
+            close_refused(shelf, home, areas, device);
             Err(fault)
         }
     }

@@ -1,44 +1,32 @@
-use Rattle.std.proofs.Common.{◌<◌, ◌∙◌, arith, ap, subst}
+use Rattle.std.proofs.Common.{◌<◌, ◌∙◌, arith, ap, refl, subst}
 use Rattle.std.proofs.lemmas.Result.{err_from_is_err_and}
 use Rattle.zj_block.specs.Sizes.{Numbers}
 use Rattle.zj_dev.specs.Shelf.{Slot}
 use Rattle.zj_cli.specs.Check.{IsJournalCause}
-use Rattle.zj_cli.proofs.OpenLemmas.{journal_cause_since, next_slot, opened_more, some_out, some_out_now}
+use Rattle.zj_cli.proofs.OpenLemmas.{journal_cause_since, next_slot, opened_more, stops}
 use Rattle.zj_cli.proofs.set.open_journals.Goals as goal
 
-pub returns-in_err-reserve-clause-left : goal.returns-in_err-reserve-clause-left
-returns-in_err-reserve-clause-left g c =
+pub returns-in_err-area-clause-stops : goal.returns-in_err-area-clause-stops
+returns-in_err-area-clause-stops g c =
     let p = err_from_is_err_and c.from_residual.result c.from_residual.ensures.1 in
-    rw (p.1, c.reserve.ensures.items) (some_out_now g.H.D.Disk.view (g.H.Shelf.names c.args.shelf.now) c.args.home.now.told (g.H.Shelf.names c.loop-core.shelf) c.loop-core.core c.loop-core.areas.items c.loop-core.invariant.opened)
-
-pub returns-in_err-reserve-clause-cause : goal.returns-in_err-reserve-clause-cause
-returns-in_err-reserve-clause-cause g c =
-    let p = err_from_is_err_and c.from_residual.result c.from_residual.ensures.1 in
-    let same = ap (λ (n : Numbers). n.cores) c.sizes.ensures in
-    let below : c.loop-core.core < c.args.home.now.told.sizes.cores = omega (arith, c.cores-core-end.ensures.value, same, c.loop-core-test.true) in
-    rw (p.1, p.2) (c.loop-core.core, below, c.loop-core.invariant.opened.lengths, tt)
-
-pub returns-in_err-area-clause-left : goal.returns-in_err-area-clause-left
-returns-in_err-area-clause-left g c =
-    let p = err_from_is_err_and c.from_residual-in_err-area.result c.from_residual-in_err-area.ensures.1 in
     let small : c.loop-core.core < 8 = omega (arith, c.cores-core-end.ensures.limits.most_cores, c.cores-core-end.ensures.value) in
-    rw (p.1, c.reserve.ensures.items)
-    (some_out g.H.D.Disk.view (g.H.Shelf.names c.args.shelf.now) c.args.home.now.told (g.H.Shelf.names c.loop-core.shelf) (g.H.Shelf.names c.open_journal.new.shelf) c.loop-core.core c.loop-core.areas.items small c.loop-core.invariant.opened
-    c.open_journal.ensures.others c.in_err-area.ensures.back)
+    rw (p.1, p.2, c.reserve.ensures.items)
+    (stops g.H.D.Disk.view (g.H.Shelf.names c.args.shelf.now) c.args.home.now.told (g.H.Shelf.names c.loop-core.shelf) (g.H.Shelf.names c.open_journal.new.shelf) c.loop-core.core c.loop-core.areas.items c.in_err-area.field-0.0.device small c.loop-core.invariant.opened
+    c.open_journal.ensures.others c.in_err-area.ensures.refused)
 
 pub returns-in_err-area-clause-cause : goal.returns-in_err-area-clause-cause
 returns-in_err-area-clause-cause g c =
-    let p = err_from_is_err_and c.from_residual-in_err-area.result c.from_residual-in_err-area.ensures.1 in
+    let p = err_from_is_err_and c.from_residual.result c.from_residual.ensures.1 in
     let small : c.loop-core.core < 8 = omega (arith, c.cores-core-end.ensures.limits.most_cores, c.cores-core-end.ensures.value) in
     let here = next_slot g.H.D.Disk.view (g.H.Shelf.names c.args.shelf.now) (g.H.Shelf.names c.loop-core.shelf) c.args.home.now.told c.loop-core.core c.loop-core.areas.items small c.loop-core.invariant.opened in
-    let cause = journal_cause_since _ (g.H.Shelf.faults c.args.shelf.now) (g.H.Shelf.faults c.loop-core.shelf) (g.H.Shelf.faults c.open_journal.new.shelf) c.args.home.now.told c.loop-core.core c.in_err-area.field-0.0 c.loop-core.invariant.no_fewer c.in_err-area.ensures.cause in
+    let cause = journal_cause_since _ (g.H.Shelf.faults c.args.shelf.now) (g.H.Shelf.faults c.loop-core.shelf) (g.H.Shelf.faults c.open_journal.new.shelf) c.args.home.now.told c.loop-core.core c.in_err-area.field-0.0.fault c.loop-core.invariant.no_fewer c.in_err-area.ensures.cause in
     let same = ap (λ (n : Numbers). n.cores) c.sizes.ensures in
     let below : c.loop-core.core < c.args.home.now.told.sizes.cores = omega (arith, c.cores-core-end.ensures.value, same, c.loop-core-test.true) in
     rw (p.1, p.2) (
       c.loop-core.core,
       below,
       c.loop-core.invariant.opened.lengths,
-      subst (λ (s : Slot). IsJournalCause s (g.H.Shelf.faults c.args.shelf.now) (g.H.Shelf.faults c.open_journal.new.shelf) c.args.home.now.told c.loop-core.core c.in_err-area.field-0.0) here cause,
+      subst (λ (s : Slot). IsJournalCause s (g.H.Shelf.faults c.args.shelf.now) (g.H.Shelf.faults c.open_journal.new.shelf) c.args.home.now.told c.loop-core.core c.in_err-area.field-0.0.fault) here cause,
     )
 
 pub loop-core-preserved : goal.loop-core-preserved
