@@ -3,6 +3,7 @@ pub mod Bytes
 pub mod Copies
 pub mod Cores
 pub mod Entries
+pub mod Limits
 pub mod Parts
 pub mod SortedEntries
 pub mod Views

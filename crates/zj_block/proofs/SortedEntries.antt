@@ -9,7 +9,7 @@ use Rattle.std.proofs.lemmas.Cmp.{nat_cmp_total}
 use Rattle.std.specs.FinMap.{put}
 use Rattle.std.proofs.lemmas.List.Elements.{All-append, All-cons, All-drop, All-set, All-take}
 use Rattle.zj_block.specs.Block.{IsContent}
-use Rattle.zj_block.specs.Lists.{Entries, IsPlace, IsWritten, content_of}
+use Rattle.zj_block.specs.Lists.{Entries, IsInsertionPoint, IsWritten, content_under}
 
 -- how two numbers compare
 less : (a b : ℕ) → a < b → nat_cmp a b ≡ Less
@@ -22,7 +22,7 @@ greater : (a b : ℕ) → b < a → nat_cmp a b ≡ Greater
 greater a b h = grind (arith, nat_tests)
 
 -- a place behind the first entry is one in the others
-place_behind : (entry : ℕ × List ℕ) (entries : Entries) (number at : ℕ) → IsPlace (entry ∷ entries) number (suc at) → IsPlace entries number at
+place_behind : (entry : ℕ × List ℕ) (entries : Entries) (number at : ℕ) → IsInsertionPoint (entry ∷ entries) number (suc at) → IsInsertionPoint entries number at
 place_behind entry entries number at place = record {
   within = omega (arith, place.within);
   smaller = λ k d below. place.smaller (suc k) d (omega arith);
@@ -30,7 +30,7 @@ place_behind entry entries number at place = record {
 }
 
 -- a content put over one with its number
-pub put_over : (entries : Entries) (number : ℕ) (content : List ℕ) (at : ℕ) (d : ℕ × List ℕ) → IsPlace entries number at → at < length entries → (get_or entries at d).0 ≡ number → put nat_cmp number content entries ≡ set entries at (number, content)
+pub put_over : (entries : Entries) (number : ℕ) (content : List ℕ) (at : ℕ) (d : ℕ × List ℕ) → IsInsertionPoint entries number at → at < length entries → (get_or entries at d).0 ≡ number → put nat_cmp number content entries ≡ set entries at (number, content)
 put_over [] number content at d place within same = absurd (omega arith)
 put_over (entry ∷ entries) number content zero d place within same =
     rw (equal number entry.0 (sym same)) (ap (λ n. (n, content) ∷ entries) same)
@@ -38,7 +38,7 @@ put_over (entry ∷ entries) number content (suc at) d place within same =
     rw (greater number entry.0 (place.smaller zero d (omega arith))) (ap (λ rest. entry ∷ rest) (put_over entries number content at d (place_behind entry entries number at place) (omega arith) same))
 
 -- a content put under a number that is new
-pub put_between : (entries : Entries) (number : ℕ) (content : List ℕ) (at : ℕ) (d : ℕ × List ℕ) → IsPlace entries number at → (at < length entries → (get_or entries at d).0 ≢ number) → put nat_cmp number content entries ≡ insert entries at (number, content)
+pub put_between : (entries : Entries) (number : ℕ) (content : List ℕ) (at : ℕ) (d : ℕ × List ℕ) → IsInsertionPoint entries number at → (at < length entries → (get_or entries at d).0 ≢ number) → put nat_cmp number content entries ≡ insert entries at (number, content)
 put_between [] number content zero d place other = refl
 put_between [] number content (suc at) d place other = absurd (omega (arith, place.within))
 put_between (entry ∷ entries) number content zero d place other =
@@ -49,7 +49,7 @@ put_between (entry ∷ entries) number content (suc at) d place other =
     rw (greater number entry.0 (place.smaller zero d (omega arith))) (ap (λ rest. entry ∷ rest) (put_between entries number content at d (place_behind entry entries number at place) (λ below. other (omega arith))))
 
 -- what a scan finds
-find_is : (entries : Entries) (number : ℕ) → map.find nat_cmp number entries ≡ content_of entries number
+find_is : (entries : Entries) (number : ℕ) → map.find nat_cmp number entries ≡ content_under entries number
 find_is [] number = refl
 find_is (entry ∷ entries) number = grind (arith, nat_tests, find_is entries number)
 
@@ -65,7 +65,7 @@ module _ (entries : Entries) (sorted : IsTrue (map.is_sorted nat_cmp entries)) w
   pub entries_is : map.entries (map.from_sorted {R = nat_cmp} entries) ≡ entries
   entries_is = map.entries-from_sorted nat_cmp entries in_order
 
-  pub get_is : (number : ℕ) → map.get (map.from_sorted {R = nat_cmp} entries) number ≡ content_of entries number
+  pub get_is : (number : ℕ) → map.get (map.from_sorted {R = nat_cmp} entries) number ≡ content_under entries number
   get_is number = map.get-from_sorted nat_cmp entries number in_order ∙ find_is entries number
 
   pub len_is : map.len (map.from_sorted {R = nat_cmp} entries) ≡ length entries

@@ -1,7 +1,12 @@
 -- What words, bytes and numbers of 32 bits of one block say of each other.
-use Rattle.std.specs.Prelude.{◌≡◌, ◌≢◌, ◌⊎◌, ℕ, ◌+◌, ◌-◌, ◌*◌, ◌/◌, ◌^◌, ◌<◌, ◌≤◌, ◌&&◌, List, length, nat_lt, nat_le, if◌then◌else◌, slice_index, slice_set}
+use Rattle.std.specs.Prelude.{◌≡◌, ◌≢◌, ◌⊎◌, ◌↔◌, None, ℕ, ◌+◌, ◌-◌, ◌*◌, ◌/◌, ◌^◌, ◌<◌, ◌≤◌, ◌&&◌, List, length, nat_lt, nat_le, if◌then◌else◌, slice_index, slice_set}
 use Rattle.std.specs.Int.{to_le_bytes, w32, w64}
+use Rattle.zj_block.specs.Sizes.{IsInLimits, Numbers, out_of_range}
 use Rattle.zj_block.specs.Block.{IsBytes, IsContent, bytes_of, overwritten, u32_at, with_bytes_at, words_of, zero_content}
+
+-- numbers are within their limits exactly where none is out of range
+abbrev pub WithinLimits : Type 0
+WithinLimits = (n : Numbers) → IsInLimits n ↔ (out_of_range n ≡ None)
 
 -- a content is told by its bytes
 abbrev pub WordsOfBytes : Type 0

@@ -11,8 +11,8 @@ abbrev pub Entries : Type 0
 Entries = List (ℕ × List ℕ)
 
 -- the content of the entry with a number
-abbrev pub content_of : Entries → ℕ → Option (List ℕ)
-content_of entries number = option_map (λ e. e.1) (find (λ e. e.0 == number) entries)
+abbrev pub content_under : Entries → ℕ → Option (List ℕ)
+content_under entries number = option_map (λ e. e.1) (find (λ e. e.0 == number) entries)
 
 -- no two entries have one number
 abbrev pub AreApart : Entries → Type 0
@@ -33,7 +33,7 @@ pub record IsWritten (entries : Entries) : Type 0 where
   pub contents : AreContents entries
 
 -- the entries before this place have smaller numbers, and the one there has not
-pub record IsPlace (entries : Entries) (number at : ℕ) : Type 0 where
+pub record IsInsertionPoint (entries : Entries) (number at : ℕ) : Type 0 where
   pub within : at ≤ length entries
   pub smaller : (k : ℕ) (d : ℕ × List ℕ) → k < at → (slice_index_or entries k d).0 < number
   pub not_smaller : (d : ℕ × List ℕ) → at < length entries → number ≤ (slice_index_or entries at d).0

@@ -1,6 +1,9 @@
 -- The sizes of an image as numbers, and what follows from them.
-use Rattle.std.specs.Prelude.{◌≡◌, ℕ, ◌+◌, ◌-◌, ◌*◌, ◌/◌, ◌%◌, ◌<◌, ◌≤◌}
-use Rattle.zj_block.specs.declared.sizes.TheConstants.{BLOCKS_PER_MAP_BLOCK, MAX_AREA, MAX_BLOCKS, MAX_CORES, MAX_NODES, MAX_RECORD_BLOCKS, MIN_BLOCKS, MIN_CORES, MIN_NODES, NODES_PER_BLOCK, VERSION}
+use Rattle.std.specs.Prelude.{◌≡◌, ℕ, ◌+◌, ◌-◌, ◌*◌, ◌/◌, ◌%◌, ◌<◌, ◌≤◌, ◌==◌, ◌&&◌, Bool, [], ◌∷◌, Option, nat_le, nat_lt}
+use Rattle.zj_block.specs.Faults.{fault_unless, first_fault}
+use Rattle.zj_block.specs.declared.sizes.SizesField.{SizesField}
+use Rattle.zj_block.specs.declared.sizes.SizesField.TheVariants as field
+use Rattle.zj_block.specs.declared.sizes.TheConstants.{BLOCKS_PER_MAP_BLOCK, MAX_AREA, MAX_BLOCKS, MAX_CORES, MAX_NODES, MAX_RECORD_BLOCKS, MIN_BLOCKS, MIN_CORES, MIN_NODES, NODES_PER_BLOCK, RECORD_BLOCK_LEN, RECORD_BOUND_LEN, RECORD_HEAD_LEN, VERSION}
 
 -- the numbers that an image is made with: its version, its blocks, nodes and cores, and a journal's area in bytes
 pub record Numbers : Type 0 where
@@ -16,7 +19,7 @@ numbers_of version blocks nodes cores area = record { version = version; blocks 
 
 -- the bytes of a longest record: its head, a bound for each core, and its blocks, each of 512 bytes behind 16 of its own
 abbrev pub max_record : Numbers → ℕ
-max_record n = 24 + 8 * n.cores + 528 * MAX_RECORD_BLOCKS
+max_record n = RECORD_HEAD_LEN + RECORD_BOUND_LEN * n.cores + RECORD_BLOCK_LEN * MAX_RECORD_BLOCKS
 
 -- the blocks of the map, which has a byte for each block of the image
 abbrev pub map_blocks : Numbers → ℕ
@@ -47,3 +50,17 @@ pub record IsInLimits (n : Numbers) : Type 0 where
   pub some_data : first_data n < n.blocks
   pub least_area : 2 * max_record n ≤ n.area
   pub most_area : n.area ≤ MAX_AREA
+
+-- whether a number is within two limits
+abbrev pub is_within : ℕ → ℕ → ℕ → Bool
+is_within least most n = nat_le least n && nat_le n most
+
+-- The first number that is outside its limits. That no block is left for data is told of the blocks, and that an area has no
+-- room for two longest records of the area.
+abbrev pub out_of_range : Numbers → Option SizesField
+out_of_range n = first_fault (
+    fault_unless (n.version == VERSION) field.Version ∷
+    fault_unless (is_within MIN_CORES MAX_CORES n.cores) field.Cores ∷
+    fault_unless (is_within MIN_BLOCKS MAX_BLOCKS n.blocks && nat_lt (first_data n) n.blocks) field.Blocks ∷
+    fault_unless (is_within MIN_NODES MAX_NODES n.nodes && n.nodes % NODES_PER_BLOCK == 0) field.Nodes ∷
+    fault_unless (is_within (2 * max_record n) MAX_AREA n.area) field.Area ∷ [])

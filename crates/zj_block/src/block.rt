@@ -148,7 +148,7 @@ impl Block {
         Block { words }
     }
 
-    // Whether some bytes from a place on are wholly in the block.
+    /// Whether some bytes from a place on are wholly in the block.
     fn holds(&self, at: usize, count: usize) -> bool
         requires { count ≤ 512 }
         ensures inside { IsTrue result ↔ (at + count ≤ 512) }
@@ -158,7 +158,7 @@ impl Block {
         at <= 8 * words.len() - count
     }
 
-    // A number whose lowest four bytes are those of the block from a byte on.
+    /// A number whose lowest four bytes are those of the block from a byte on.
     fn window(&self, at: usize) -> u64
         requires { at + 4 ≤ 512 }
         ensures { (k : ℕ) → k < 4 → byte_at k result ≡ slice_index (bytes_of self.now) (at + k) }
@@ -172,7 +172,7 @@ impl Block {
         (high << (8 * (8 - from))) + low
     }
 
-    // Puts the lowest bytes of a value over those of word `i` from byte `from` on.
+    /// Puts the lowest bytes of a value over those of word `i` from byte `from` on.
     fn put_part(&mut self, i: usize, from: u32, count: u32, value: u64)
         requires word { i < 64 }
         requires inside { from + count ≤ 8 }
@@ -185,7 +185,7 @@ impl Block {
     }
 }
 
-// The word with the lowest bytes of a value over its own from byte `from` on.
+/// The word with the lowest bytes of a value over its own from byte `from` on.
 fn with_part(word: u64, from: u32, count: u32, value: u64) -> u64
     requires inside { from + count ≤ 8 }
     requires some { 1 ≤ count }

@@ -1,7 +1,13 @@
-//! Laws of the contents of a block: each is what a call with no effect ensures.
+//! Laws of the numbers of an image and of the contents of a block: each is what a call with no effect
+//! ensures.
 
 ghost use Rattle.zj_block.specs.Block.{IsContent, zero_content};
-ghost use Rattle.zj_block.specs.Laws.{BytesMakeContent, BytesOfWords, ContentHasBytes, NumberFits, NumberFound, NumbersApart, NumbersElsewhere, NumbersOffWord, OverwrittenBytes, PutBytes, PutContent, SetWordBytes, WordHalves, WordsElsewhere, WordsOfBytes, ZeroBytes, ZeroNumbers, ZeroWords};
+ghost use Rattle.zj_block.specs.Laws.{BytesMakeContent, BytesOfWords, ContentHasBytes, NumberFits, NumberFound, NumbersApart, NumbersElsewhere, NumbersOffWord, OverwrittenBytes, PutBytes, PutContent, SetWordBytes, WithinLimits, WordHalves, WordsElsewhere, WordsOfBytes, ZeroBytes, ZeroNumbers, ZeroWords};
+
+/// Numbers are within their limits exactly where none is out of range.
+pub fn limits()
+    ensures { WithinLimits }
+{}
 
 /// Words and bytes tell each other.
 pub fn words_and_bytes()

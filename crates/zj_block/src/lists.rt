@@ -4,7 +4,7 @@ ghost use Rattle.std.specs.Prelude.{◌≡◌, ◌<◌, ◌↔◌, [], ◌∷◌
 ghost use Rattle.std.specs.Option.{option_copied, option_map};
 ghost use Rattle.zj_block.specs.Block.{IsContent, zero_content};
 ghost use Rattle.std.specs.FinMap as map;
-ghost use Rattle.zj_block.specs.Lists.{AreContents, IsPlace, IsTaken, content_of};
+ghost use Rattle.zj_block.specs.Lists.{AreContents, IsInsertionPoint, IsTaken, content_under};
 
 use crate::block::Block;
 use crate::numbers::BlockNo;
@@ -105,7 +105,7 @@ impl Taken {
 
     /// Adds a block that was not taken yet, as it was found.
     pub fn add(&mut self, b: BlockNo, found: &Block) -> Result<(), AllocError>
-        requires { content_of self.old b.0 ≡ None }
+        requires { content_under self.old b.0 ≡ None }
         ensures ok { OnOk result (self.new ≡ self.old ++ (b.0, found.now) ∷ []) }
         ensures err { OnErr result (self.new ≡ self.old) }
     {
@@ -115,7 +115,7 @@ impl Taken {
 
     /// The block with a number as it was found: `None` where it was not taken.
     pub fn get(&self, b: BlockNo) -> Option<&Block>
-        ensures found { option_copied result ≡ content_of self.now b.0 }
+        ensures found { option_copied result ≡ content_under self.now b.0 }
         ensures content { IfSome result (λ f. IsContent f.now) }
     {
         content_in(&self.found, b.0)
@@ -233,16 +233,16 @@ impl Written {
     }
 }
 
-// The content of the first entry with a number.
+/// The content of the first entry with a number.
 fn content_in(entries: &[(u32, Block)], number: u32) -> Option<&Block>
-    ensures content { option_copied result ≡ content_of entries.now number }
+    ensures content { option_copied result ≡ content_under entries.now number }
     ensures fits { AreContents entries.now → IfSome result (λ content. IsContent content.now) }
 {
     let (_, content) = entries.iter().find(|(other, _)| *other == number)?;
     Some(content)
 }
 
-// The entry at a place.
+/// The entry at a place.
 fn entry_at(entries: &[(u32, Block)], i: usize) -> Option<(BlockNo, &Block)>
     ensures entry { option_map (λ e. (e.0.0, e.1.now)) result ≡ slice_get entries.now i }
     ensures fits { AreContents entries.now → IfSome result (λ e. IsContent e.1.now) }
@@ -251,9 +251,9 @@ fn entry_at(entries: &[(u32, Block)], i: usize) -> Option<(BlockNo, &Block)>
     Some((BlockNo(*number), content))
 }
 
-// The place of the first entry whose number is not below this one.
+/// The place of the first entry whose number is not below this one.
 fn place(entries: &[(u32, Block)], number: u32) -> usize
-    ensures { IsPlace entries.now number result }
+    ensures { IsInsertionPoint entries.now number result }
 {
     for (i, (other, _)) in entries.iter().enumerate() {
         if *other >= number {

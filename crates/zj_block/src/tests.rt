@@ -30,19 +30,25 @@ fn sizes_follow_from_their_numbers(rt: HostRuntime) -> Result<(), Fail> {
 
 #[test]
 fn sizes_outside_their_limits_are_refused(rt: HostRuntime) {
-    for (version, blocks, nodes, cores, area) in [
-        (1, 64, 9, 1, 50_752),
-        (1, 64, 8, 1, 50_751),
-        (0, 64, 8, 1, 50_752),
-        (2, 64, 8, 1, 50_752),
-        (1, 15, 8, 1, 50_752),
-        (1, 4097, 8, 1, 50_752),
-        (1, 64, 8, 9, 131_072),
-        (1, 64, 8, 1, 16_777_217),
-        (1, 16, 128, 1, 50_752),
+    for (version, blocks, nodes, cores, area, field) in [
+        (1, 64, 9, 1, 50_752, SizesField::Nodes),
+        (1, 64, 8, 1, 50_751, SizesField::Area),
+        (0, 64, 8, 1, 50_752, SizesField::Version),
+        (2, 64, 8, 1, 50_752, SizesField::Version),
+        (1, 15, 8, 1, 50_752, SizesField::Blocks),
+        (1, 4097, 8, 1, 50_752, SizesField::Blocks),
+        (1, 64, 8, 9, 131_072, SizesField::Cores),
+        (1, 64, 8, 1, 16_777_217, SizesField::Area),
+        (1, 16, 128, 1, 50_752, SizesField::Blocks),
+        (1, 15, 9, 0, 0, SizesField::Cores),
+        (1, 15, 9, 1, 0, SizesField::Blocks),
+        (1, 64, 9, 1, 0, SizesField::Nodes),
     ] {
         assert!(rt; Sizes::new(version, blocks, nodes, cores, area).is_none());
+        let found = Sizes::out_of_range(version, blocks, nodes, cores, area);
+        assert_eq!(rt; found, Some(field));
     }
+    assert_eq!(rt; Sizes::out_of_range(1, 64, 8, 1, 50_752), None);
 }
 
 #[test]

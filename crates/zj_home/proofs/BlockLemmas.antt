@@ -9,8 +9,8 @@ use Rattle.zj_block.specs.Block.{bytes_of, zero_content}
 use Rattle.zj_dev.specs.Disk.{DiskView, IsDisk, replaced}
 use Rattle.zj_home.specs.Super.{block_bytes_in}
 use Rattle.zj_home.specs.Made.{HoldsBlocks}
-use Rattle.zj_home.proofs.ImageLemmas.{told_length}
-use Rattle.zj_home.proofs.Replaced.{at-replaced, before-replaced}
+use Rattle.zj_dev.proofs.DiskLaws.{replaced_part, told_length}
+use Rattle.zj_home.proofs.Replaced.{at-replaced}
 
 -- the blocks before it stay, and it stands at its place
 one_more : (image : List ℕ) (blocks : List (List ℕ)) (b : ℕ) (content : List ℕ) → 8192 + 512 * b + 512 ≤ length image → length (bytes_of content) ≡ 512 → content ≡ slice_index_or blocks b zero_content
@@ -22,7 +22,7 @@ one_more image blocks b content within many is before k below = elim (cases_eq k
       ∙ ap bytes_of is
       ∙ ap (λ n. bytes_of (slice_index_or blocks n zero_content)) (sym here)
   | inr other ↦
-      before-replaced image (8192 + 512 * b) (bytes_of content) (8192 + 512 * k) (8192 + 512 * k + 512) (omega (arith, many)) (omega arith)
+      replaced_part image (8192 + 512 * b) (bytes_of content) (8192 + 512 * k) (8192 + 512 * k + 512) (omega (arith, many)) (inl (omega arith))
       ∙ before k (omega arith)
 ]
 

@@ -1,4 +1,4 @@
--- Lists of faults, and numbers with no fault.
+-- Lists of faults, and tails with no fault.
 use Rattle.std.proofs.Common.{◌≡◌, ℕ, ◌+◌, ◌<◌, List, [], ◌∷◌, ◌++◌, take, drop, Option, Some, None, refl, sym, ap, ◌∙◌, arith}
 use Rattle.std.specs.Prelude.{map}
 use Rattle.std.specs.List.{range_with_len}
@@ -6,9 +6,10 @@ use Rattle.std.proofs.lemmas.Grind.{common_steps}
 use Rattle.std.proofs.lemmas.Bool.Decides.{nat_tests}
 use Rattle.std.proofs.lemmas.List.{take-append-drop}
 use Rattle.std.proofs.lemmas.List.FromFn.{map-range_with_len_more, take-map-range_with_len}
-use Rattle.zj_block.specs.Sizes.{Numbers, IsInLimits}
+use Rattle.zj_block.specs.Faults.{first_fault}
+use Rattle.zj_block.specs.Sizes.{Numbers}
 use Rattle.zj_block.specs.declared.numbers.Tail.{Tail}
-use Rattle.zj_home.specs.Super.{IsTail, first_fault, numbers_fault, tail_fault}
+use Rattle.zj_home.specs.Super.{IsTail, tail_fault}
 use Rattle.zj_home.specs.declared.fault.HomeFault.{HomeFault}
 
 -- no fault, and then more
@@ -36,22 +37,6 @@ some_first f n k fault below before here =
     let found : first_fault (take (k + 1) all) ≡ Some fault =
     ap first_fault front ∙ ap first_fault (map-range_with_len_more f 0 k k (omega arith)) ∙ later (map f (range_with_len 0 k)) (f k ∷ []) before ∙ ap (λ (o : Option HomeFault). first_fault (o ∷ [])) here in
     ap first_fault (sym (take-append-drop (k + 1) all)) ∙ earlier (take (k + 1) all) (drop (k + 1) all) fault found
-
--- numbers with no fault are within their limits
-pub in_limits : (slot : ℕ) (n : Numbers) → numbers_fault slot n ≡ None → IsInLimits n
-in_limits slot n h = record {
-  one_version = grind (arith, common_steps, nat_tests);
-  least_blocks = grind (arith, common_steps, nat_tests);
-  most_blocks = grind (arith, common_steps, nat_tests);
-  least_nodes = grind (arith, common_steps, nat_tests);
-  most_nodes = grind (arith, common_steps, nat_tests);
-  whole_nodes = grind (arith, common_steps, nat_tests);
-  least_cores = grind (arith, common_steps, nat_tests);
-  most_cores = grind (arith, common_steps, nat_tests);
-  some_data = grind (arith, common_steps, nat_tests);
-  least_area = grind (arith, common_steps, nat_tests);
-  most_area = grind (arith, common_steps, nat_tests);
-}
 
 -- a tail with no fault is sound
 pub tail_sound : (slot core : ℕ) (n : Numbers) (tail : Tail) → tail_fault slot n core tail ≡ None → IsTail n tail

@@ -1,12 +1,11 @@
 -- What the bytes behind the gates, and the gates, say of an image.
-use Rattle.std.proofs.Common.{◌≡◌, ◌≢◌, ℕ, ◌+◌, ◌-◌, ◌<◌, ◌≤◌, Bool, true, false, List, [], ◌∷◌, length, take, drop, slice_index, Option, Some, None, refl, sym, ap, ◌∙◌, arith, inl, inr}
+use Rattle.std.proofs.Common.{◌≡◌, ◌≢◌, ℕ, ◌+◌, ◌-◌, ◌≤◌, Bool, true, false, List, [], ◌∷◌, length, take, drop, slice_index, Option, Some, None, refl, sym, ap, ◌∙◌, arith, inl, inr}
 use Rattle.std.specs.Prelude.{◌==◌, ◌⊎◌, nat_eq, nat_lt}
 use Rattle.std.specs.List.{slice_range, starts_with}
 use Rattle.std.proofs.lemmas.Bool.{cases_Bool, cases_lt}
 use Rattle.std.proofs.lemmas.Bool.Decides.{Decides-eqb, eqb_tells}
 use Rattle.std.proofs.lemmas.Grind.{common_steps}
-use Rattle.std.proofs.lemmas.List.{drop-drop, drop-take, get_or-drop, get_or-take, take-take}
-use Rattle.std.proofs.lemmas.Slice.{between_is}
+use Rattle.std.proofs.lemmas.List.{drop-take, get_or-take, take-take}
 use Rattle.std.proofs.lemmas.Slice.Eq.{starts_is}
 use Rattle.zj_dev.specs.Disk.{SameOutside, replaced}
 use Rattle.zj_home.specs.Super.{counting, counting_of, head_fault, head_of, is_open, letters, slot_fault, u64_in}
@@ -14,33 +13,8 @@ use Rattle.zj_home.specs.Made.{HasNoLetters, IsNoImage, IsShut}
 use Rattle.zj_home.specs.declared.fault.HomeFault.TheVariants.{NotAnImage}
 use Rattle.zj_home.proofs.FieldReads.{part}
 use Rattle.zj_home.proofs.ImageLemmas.{fault_by_head, short}
-use Rattle.zj_home.proofs.Replaced.{at-replaced, before-replaced, length-replaced}
-
--- what lies before the range stays
-before_same : (at count : ℕ) (old new : List ℕ) (from to : ℕ) → SameOutside at count old new → to ≤ at → slice_range new from to ≡ slice_range old from to
-before_same at count old new from to same within =
-    let e : take to new ≡ take to old = sym (take-take to at new within) ∙ ap (take to) same.before ∙ take-take to at old within in
-    between_is new from to ∙ ap (drop from) e ∙ sym (between_is old from to)
-
--- and so does what lies behind it
-behind_same : (at count : ℕ) (old new : List ℕ) (from to : ℕ) → SameOutside at count old new → at + count ≤ from → slice_range new from to ≡ slice_range old from to
-behind_same at count old new from to same apart =
-    let n = from - (at + count) in
-    let whole : at + count + n ≡ from = omega arith in
-    let e : drop from new ≡ drop from old =
-    ap (λ k. drop k new) (sym whole) ∙ sym (drop-drop n (at + count) new) ∙ ap (drop n) same.behind ∙ drop-drop n (at + count) old ∙ ap (λ k. drop k old) whole in
-    ap (take (to - from)) e
-
--- a byte before the range
-byte_before : (at count : ℕ) (old new : List ℕ) (i : ℕ) → SameOutside at count old new → i < at → slice_index new i ≡ slice_index old i
-byte_before at count old new i same below = sym (get_or-take at new i 0 below) ∙ ap (λ (l : List ℕ). slice_index l i) same.before ∙ get_or-take at old i 0 below
-
--- a byte behind it
-byte_behind : (at count : ℕ) (old new : List ℕ) (i : ℕ) → SameOutside at count old new → at + count ≤ i → slice_index new i ≡ slice_index old i
-byte_behind at count old new i same apart =
-    let n = i - (at + count) in
-    let whole : at + count + n ≡ i = omega arith in
-    ap (λ k. slice_index new k) (sym whole) ∙ sym (get_or-drop (at + count) new n 0) ∙ ap (λ (l : List ℕ). slice_index l n) same.behind ∙ get_or-drop (at + count) old n 0 ∙ ap (λ k. slice_index old k) whole
+use Rattle.zj_dev.proofs.DiskLaws.{byte_outside, length-replaced, part_outside, replaced_part}
+use Rattle.zj_home.proofs.Replaced.{at-replaced}
 
 -- the letters stay away
 letters_stay : (old new : List ℕ) → slice_range new 1 8 ≡ slice_range old 1 8 → slice_range new 4097 4104 ≡ slice_range old 4097 4104 → HasNoLetters old → HasNoLetters new
@@ -51,21 +25,21 @@ letters_stay old new first second none = record {
 
 -- where the first gate is written
 pub letters_first : (old new : List ℕ) → SameOutside 0 1 old new → HasNoLetters old → HasNoLetters new
-letters_first old new same = letters_stay old new (behind_same 0 1 old new 1 8 same (omega arith)) (behind_same 0 1 old new 4097 4104 same (omega arith))
+letters_first old new same = letters_stay old new (part_outside 0 1 old new 1 8 same (inr (omega arith))) (part_outside 0 1 old new 4097 4104 same (inr (omega arith)))
 
 -- where the second gate is
 pub letters_second : (old new : List ℕ) → SameOutside 4096 1 old new → HasNoLetters old → HasNoLetters new
-letters_second old new same = letters_stay old new (before_same 4096 1 old new 1 8 same (omega arith)) (behind_same 4096 1 old new 4097 4104 same (omega arith))
+letters_second old new same = letters_stay old new (part_outside 4096 1 old new 1 8 same (inl (omega arith))) (part_outside 4096 1 old new 4097 4104 same (inr (omega arith)))
 
 -- and where a block is
 pub letters_block : (at count : ℕ) (old new : List ℕ) → 8192 ≤ at → SameOutside at count old new → HasNoLetters old → HasNoLetters new
-letters_block at count old new far same = letters_stay old new (before_same at count old new 1 8 same (omega arith)) (before_same at count old new 4097 4104 same (omega arith))
+letters_block at count old new far same = letters_stay old new (part_outside at count old new 1 8 same (inl (omega arith))) (part_outside at count old new 4097 4104 same (inl (omega arith)))
 
 -- the gates stay shut where a body is written
 pub shut_body : (count : ℕ) (old new : List ℕ) → count ≤ 4095 → SameOutside 1 count old new → IsShut old → IsShut new
 shut_body count old new few same shut = record {
-  first = λ is. shut.first (sym (byte_before 1 count old new 0 same (omega arith)) ∙ is);
-  second = λ is. shut.second (sym (byte_behind 1 count old new 4096 same (omega arith)) ∙ is);
+  first = λ is. shut.first (sym (byte_outside 1 count old new 0 same (inl (omega arith))) ∙ is);
+  second = λ is. shut.second (sym (byte_outside 1 count old new 4096 same (inr (omega arith))) ∙ is);
 }
 
 -- an image whose first byte is 1
@@ -77,7 +51,7 @@ opened old (byte ∷ rest) same is = grind (arith, common_steps)
 pub shut_or_open : (old new : List ℕ) → SameOutside 0 1 old new → IsShut old → IsShut new ⊎ (new ≡ replaced old 0 (1 ∷ []))
 shut_or_open old new same shut = elim (eqb_tells (slice_index new 0) 1) [
   | inl is ↦ inr (opened old new same.behind is.1)
-  | inr not ↦ inl (record { first = not.1; second = λ is. shut.second (sym (byte_behind 0 1 old new 4096 same (omega arith)) ∙ is) })
+  | inr not ↦ inl (record { first = not.1; second = λ is. shut.second (sym (byte_outside 0 1 old new 4096 same (inr (omega arith))) ∙ is) })
 ]
 
 -- no letters in the image, none in its head
@@ -146,7 +120,7 @@ closed_shut image long =
     let one = replaced image 0 (0 ∷ []) in
     let both = replaced one 4096 (0 ∷ []) in
     let many = length-replaced image 0 (0 ∷ []) (omega (arith, long)) in
-    let first : slice_range both 0 1 ≡ 0 ∷ [] = before-replaced one 4096 (0 ∷ []) 0 1 (omega (arith, long, many)) (omega arith) ∙ at-replaced image 0 (0 ∷ []) 1 (omega (arith, long)) refl in
+    let first : slice_range both 0 1 ≡ 0 ∷ [] = replaced_part one 4096 (0 ∷ []) 0 1 (omega (arith, long, many)) (inl (omega arith)) ∙ at-replaced image 0 (0 ∷ []) 1 (omega (arith, long)) refl in
     let second : slice_range both 4096 4097 ≡ 0 ∷ [] = at-replaced one 4096 (0 ∷ []) 4097 (omega (arith, long, many)) refl in
     let a : slice_index both 0 ≡ 0 = sym (part both 0 1 0 (omega arith)) ∙ ap (λ (p : List ℕ). slice_index p 0) first in
     let b : slice_index both 4096 ≡ 0 = sym (part both 4096 1 0 (omega arith)) ∙ ap (λ (p : List ℕ). slice_index p 0) second in

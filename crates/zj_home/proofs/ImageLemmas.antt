@@ -7,7 +7,9 @@ use Rattle.std.proofs.lemmas.Grind.{common_steps}
 use Rattle.std.proofs.lemmas.Bool.Decides.{nat_tests}
 use Rattle.std.proofs.lemmas.List.{take-append-le, take_all}
 use Rattle.zj_dev.specs.Disk.{DiskView, IsDisk}
-use Rattle.zj_home.specs.Super.{IsRefusal, counting, first_fault, head_fault, image_fault, super_in, super_of}
+use Rattle.zj_dev.proofs.DiskLaws.{told_length}
+use Rattle.zj_block.specs.Faults.{first_fault}
+use Rattle.zj_home.specs.Super.{IsOfBytes, OpensAs, counting, head_fault, image_fault, super_in, super_of}
 use Rattle.zj_home.specs.Home.{IsCause}
 use Rattle.zj_home.specs.Told.{super_told}
 use Rattle.zj_home.specs.declared.slot.Told.{Told}
@@ -23,12 +25,6 @@ if_some (Some x) follows p = follows x refl p
 pub if_some_all : {X : Type 0} (o : Option X) {Q : X → Type 0} → ((x : X) → o ≡ Some x → Q x) → IfSome o Q
 if_some_all None follows = tt
 if_some_all (Some x) follows = follows x refl
-
--- the bytes that a disk tells fill it
-pub told_length : (disk : DiskView) (image : List ℕ) → IsDisk disk → disk.bytes ≡ Some image → length image ≡ disk.size
-told_length disk image is e =
-    let now = rw e at is.current in
-    (is.filled disk.calls image (omega arith) now).0
 
 -- a list of one
 one : (o : Option HomeFault) → first_fault (o ∷ []) ≡ o
@@ -53,7 +49,7 @@ unfolding super_of
 super_by_head image head e = rw (← e) refl
 
 -- a fault that the bytes have is a cause
-pub cause_of : (old new : DiskView) (fault : HomeFault) → IsRefusal fault → IfSome old.bytes (λ image. image_fault image ≡ Some fault) → IsCause old new fault
+pub cause_of : (old new : DiskView) (fault : HomeFault) → IsOfBytes fault → IfSome old.bytes (λ image. image_fault image ≡ Some fault) → IsCause old new fault
 cause_of old new DiskFault is h = absurd is
 cause_of old new NoMemory is h = absurd is
 cause_of old new (NotAnImage at) is h = h
@@ -78,13 +74,13 @@ short_disk disk len is many h = if_some_all disk.bytes (λ image told. let e = t
 -- what was read from the head is the super of the image
 pub told_from_head : (r : Result Told HomeFault) (disk : DiskView) (head : List ℕ) (len : ℕ) → TellsImage disk head len
     → OnOk r (head_fault head len (counting head) ≡ None) → IfOk r (λ told. option_map (λ slot. super_in head slot) (counting head) ≡ Some (super_told told))
-    → IfOk r (λ told. IfSome disk.bytes (λ image. (image_fault image ≡ None) × (super_of image ≡ Some (super_told told))))
-told_from_head (Ok told) disk head len tells none is = if_some disk.bytes (λ image e h. (h.0 ∙ none, h.1 ∙ is)) tells
+    → IfOk r (λ told. IfSome disk.bytes (λ image. OpensAs image (super_told told)))
+told_from_head (Ok told) disk head len tells none is = if_some disk.bytes (λ image e h. record { sound = h.0 ∙ none; counts = h.1 ∙ is }) tells
 told_from_head (Err fault) disk head len tells none is = tt
 
 -- a fault of the head is one of the image
 pub cause_from_head : (r : Result Told HomeFault) (old new : DiskView) (head : List ℕ) (len : ℕ) → TellsImage old head len
-    → IfErr r (λ fault. head_fault head len (counting head) ≡ Some fault) → IfErr r IsRefusal → IfErr r (IsCause old new)
+    → IfErr r (λ fault. head_fault head len (counting head) ≡ Some fault) → IfErr r IsOfBytes → IfErr r (IsCause old new)
 cause_from_head (Ok told) old new head len tells is refusal = tt
 cause_from_head (Err fault) old new head len tells is refusal = cause_of old new fault refusal (if_some old.bytes (λ image e h. h.0 ∙ is) tells)
 
@@ -98,7 +94,7 @@ pub written_front : (into rest whole : List ℕ) (n : ℕ) → length into ≡ n
 written_front into rest whole n many is = grind (arith, common_steps, take-append-le n into rest (omega arith), take_all n into (omega arith))
 
 -- two writes and a sync
-pub two_writes : {Y : Type 0} (f g : List ℕ → List ℕ) (r : Result (Unit {0}) Y) (o p q s : Option (List ℕ)) → p ≡ option_map f o → q ≡ option_map g p → OnOk r (s ≡ q) → OnOk r (s ≡ option_map (λ bytes. g (f bytes)) o)
+pub two_writes : {Y : Type 0} (f g : List ℕ → List ℕ) (r : Result (Unit {0}) Y) (o p q s : Option (List ℕ)) → p ≡ option_map f o → q ≡ option_map g p → s ≡ q → OnOk r (s ≡ option_map (λ bytes. g (f bytes)) o)
 two_writes f g (Err y) o p q s first second last = tt
 two_writes f g (Ok x) None p q s first second last = cc
 two_writes f g (Ok x) (Some bytes) p q s first second last = last ∙ second ∙ ap (option_map g) first

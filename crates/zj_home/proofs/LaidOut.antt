@@ -1,5 +1,5 @@
 -- What was laid out on a device, as a home.
-use Rattle.std.proofs.Common.{◌≡◌, ℕ, ◌+◌, ◌*◌, ◌≤◌, List, [], ◌∷◌, ◌++◌, length, take, drop, slice_index, Option, Some, None, refl, sym, ap, ◌∙◌, arith, subst, true}
+use Rattle.std.proofs.Common.{◌≡◌, ℕ, ◌+◌, ◌*◌, ◌≤◌, List, [], ◌∷◌, ◌++◌, length, take, drop, slice_index, Option, Some, None, refl, sym, ap, ◌∙◌, arith, subst, true, inr}
 use Rattle.std.specs.Prelude.{IfSome, OnOk, Result, Ok, Err}
 use Rattle.std.specs.List.{slice_range}
 use Rattle.std.specs.Option.{option_map}
@@ -7,41 +7,48 @@ use Rattle.std.proofs.lemmas.Grind.{common_steps}
 use Rattle.std.proofs.lemmas.List.{get_or-take, take-replicate}
 use Rattle.zj_block.specs.Sizes.{Numbers, IsInLimits}
 use Rattle.zj_dev.specs.Disk.{DiskView, IsDisk, replaced}
-use Rattle.std.specs.Prelude.{Bool, ◌==◌, nat_eq, map}
+use Rattle.std.specs.Prelude.{Bool, ◌==◌, ◌^◌, nat_eq, nat_lt, map}
 use Rattle.std.specs.List.{starts_with, range_with_len}
 use Rattle.std.proofs.Common.{replicate, eq-eqb}
 use Rattle.zj_block.specs.Numbers.{zero_tail, zero_tails}
 use Rattle.zj_block.specs.declared.numbers.Tail.{Tail}
+use Rattle.zj_block.specs.Faults.{fault_unless, first_fault}
+use Rattle.zj_block.specs.declared.sizes.TheConstants.{VERSION}
 use Rattle.zj_home.specs.declared.fault.HomeFault.{HomeFault}
-use Rattle.zj_home.specs.declared.fault.HomeFault.TheVariants.{NotAnImage, Sizes}
+use Rattle.zj_home.specs.declared.fault.HomeFault.TheVariants.{NotAnImage, Sizes, Version}
 use Rattle.zj_home.proofs.FieldReads.{part}
 use Rattle.std.specs.Prelude.{All}
 use Rattle.std.proofs.lemmas.List.Elements.{All-replicate, All-same}
-use Rattle.zj_home.specs.Super.{IsTail, numbers_fault, tails_fault, tail_in, u64_in, unless, Super, first_fault, head_of, head_fault, letters, numbers_in, slot_fault, super_in, home_length}
-use Rattle.zj_home.specs.Made.{HoldsBlocks, IsHome, IsLaidOut, IsMade, first_slot, first_super}
-use Rattle.zj_home.proofs.ImageLemmas.{fault_by_head, super_by_head, told_length, if_some}
+use Rattle.zj_home.specs.Super.{IsTail, numbers_fault, tails_fault, tail_in, u64_in, Super, head_of, head_fault, letters, numbers_in, slot_fault, super_in, home_length}
+use Rattle.zj_home.specs.Made.{HoldsBlocks, IsHome, IsLaidOut, IsMade, first_super, slot_bytes}
+use Rattle.zj_dev.proofs.DiskLaws.{replaced_part, length-replaced, told_length}
+use Rattle.zj_home.proofs.ImageLemmas.{fault_by_head, super_by_head, if_some}
 use Rattle.zj_home.proofs.MadeLemmas.{epoch_at, first_counts, no_number_fault, no_tail_fault, numbers_at, tails_at}
-use Rattle.zj_home.proofs.Replaced.{at-replaced, behind-replaced, gate_last, length-replaced}
+use Rattle.zj_home.proofs.Replaced.{at-replaced, gate_last}
 
--- four places with no fault
-four : (a b c d : Option HomeFault) → a ≡ None → b ≡ None → c ≡ None → d ≡ None → first_fault (a ∷ b ∷ c ∷ d ∷ []) ≡ None
-four a b c d ea eb ec ed = rw (ea, eb, ec, ed) refl
+-- six places with no fault
+six : (a b c d e f : Option HomeFault) → a ≡ None → b ≡ None → c ≡ None → d ≡ None → e ≡ None → f ≡ None → first_fault (a ∷ b ∷ c ∷ d ∷ e ∷ f ∷ []) ≡ None
+six a b c d e f ea eb ec ed ee ef = rw (ea, eb, ec, ed, ee, ef) refl
 
 -- a slot with no fault in its parts
-slot_none : (h : List ℕ) (n : Numbers) (len : ℕ) → starts_with nat_eq (drop 1 h) letters ≡ true → numbers_in h 0 ≡ n → numbers_fault 0 n ≡ None → tails_fault h 0 n n.cores ≡ None → len ≡ home_length n → slot_fault h len 0 ≡ None
+slot_none : (h : List ℕ) (n : Numbers) (len : ℕ) → starts_with nat_eq (drop 1 h) letters ≡ true → numbers_in h 0 ≡ n → n.version ≡ VERSION → u64_in h 8 ≡ 1 → numbers_fault 0 n ≡ None → tails_fault h 0 n n.cores ≡ None → len ≡ home_length n
+    → slot_fault h len 0 ≡ None
 unfolding slot_fault
-slot_none h n len starts same numbers tails size =
-    let test : (len == home_length n) ≡ true = eq-eqb len (home_length n) size in
-    let right : unless (len == home_length n) (Sizes len (home_length n)) ≡ None = rw test refl in
-    four (unless (starts_with nat_eq (drop 1 h) letters) (NotAnImage 1)) (numbers_fault 0 (numbers_in h 0)) (tails_fault h 0 (numbers_in h 0) (numbers_in h 0).cores) (unless (len == home_length (numbers_in h 0)) (Sizes len (home_length (numbers_in h 0))))
-    (ap (λ (b : Bool). unless b (NotAnImage 1)) starts)
+slot_none h n len starts same version epoch numbers tails size =
+    let right_version : fault_unless (n.version == VERSION) (Version n.version) ≡ None = ap (λ (b : Bool). fault_unless b (Version n.version)) (eq-eqb n.version VERSION version) in
+    let right_size : fault_unless (len == home_length n) (Sizes len (home_length n)) ≡ None = ap (λ (b : Bool). fault_unless b (Sizes len (home_length n))) (eq-eqb len (home_length n) size) in
+    six (fault_unless (starts_with nat_eq (drop 1 h) letters) (NotAnImage 1)) (fault_unless ((numbers_in h 0).version == VERSION) (Version (numbers_in h 0).version)) (fault_unless (nat_lt (u64_in h 8) (2 ^ 62)) (NotAnImage 8))
+    (numbers_fault 0 (numbers_in h 0)) (tails_fault h 0 (numbers_in h 0) (numbers_in h 0).cores) (fault_unless (len == home_length (numbers_in h 0)) (Sizes len (home_length (numbers_in h 0))))
+    (ap (λ (b : Bool). fault_unless b (NotAnImage 1)) starts)
+    (ap (λ (m : Numbers). fault_unless (m.version == VERSION) (Version m.version)) same ∙ right_version)
+    (ap (λ (k : ℕ). fault_unless (nat_lt k (2 ^ 62)) (NotAnImage 8)) epoch)
     (ap (λ (m : Numbers). numbers_fault 0 m) same ∙ numbers)
     (ap (λ (m : Numbers). tails_fault h 0 m m.cores) same ∙ tails)
-    (ap (λ (m : Numbers). unless (len == home_length m) (Sizes len (home_length m))) same ∙ right)
+    (ap (λ (m : Numbers). fault_unless (len == home_length m) (Sizes len (home_length m))) same ∙ right_size)
 
 -- the parts of a super
 abbrev super_with : ℕ → Numbers → List Tail → Super
-super_with epoch sizes tails = record { epoch = epoch; sizes = sizes; tails = tails }
+super_with epoch sizes tails = record { slot = 0; epoch = epoch; sizes = sizes; tails = tails }
 
 same_super : (e e' : ℕ) (s s' : Numbers) (t t' : List Tail) → e ≡ e' → s ≡ s' → t ≡ t' → super_with e s t ≡ super_with e' s' t'
 same_super e e' s s' t t' ee es et = rw (ee, es, et) refl
@@ -52,33 +59,35 @@ super_is h n epoch same tails =
     (ap (λ (m : Numbers). map (λ core. tail_in h 0 core) (range_with_len 0 m.cores)) same ∙ tails)
 
 -- an image with that slot is a home
-is_home : (n : Numbers) (blocks : List (List ℕ)) (rest : List ℕ) → IsInLimits n → length (first_slot n ++ rest) ≡ home_length n → slice_index (first_slot n ++ rest) 4096 ≡ 0
-    → HoldsBlocks (first_slot n ++ rest) blocks (length blocks) → IsHome (first_super n) blocks (first_slot n ++ rest)
+is_home : (n : Numbers) (blocks : List (List ℕ)) (rest : List ℕ) → IsInLimits n → length (slot_bytes (first_super n) ++ rest) ≡ home_length n → slice_index (slot_bytes (first_super n) ++ rest) 4096 ≡ 0
+    → HoldsBlocks (slot_bytes (first_super n) ++ rest) blocks (length blocks) → IsHome (first_super n) blocks (slot_bytes (first_super n) ++ rest)
 unfolding head_fault
 is_home n blocks rest is many closed holds =
-    let image = first_slot n ++ rest in
+    let image = slot_bytes (first_super n) ++ rest in
     let shut : slice_index (head_of image) 4096 ≡ 0 = get_or-take 8192 image 4096 0 (omega arith) ∙ closed in
     let counts = first_counts n rest shut in
     let same = numbers_at n rest is in
-    let slot = slot_none (head_of image) n (home_length n) refl same (no_number_fault n is) (no_tail_fault n rest is) refl in
+    let slot = slot_none (head_of image) n (home_length n) refl same is.one_version (epoch_at n rest) (no_number_fault n is) (no_tail_fault n rest is) refl in
     let super = super_is (head_of image) n (epoch_at n rest) same (tails_at n rest is.most_cores) in
     record {
-      none = fault_by_head image (head_of image) (home_length n) many (omega arith) refl ∙ ap (λ (o : Option ℕ). head_fault (head_of image) (home_length n) o) counts ∙ slot;
-      told = super_by_head image (head_of image) refl ∙ ap (option_map (λ slot. super_in (head_of image) slot)) counts ∙ ap (λ (s : Super). Some s) super;
+      opens = record {
+        sound = fault_by_head image (head_of image) (home_length n) many (omega arith) refl ∙ ap (λ (o : Option ℕ). head_fault (head_of image) (home_length n) o) counts ∙ slot;
+        counts = super_by_head image (head_of image) refl ∙ ap (option_map (λ slot. super_in (head_of image) slot)) counts ∙ ap (λ (s : Super). Some s) super;
+      };
       blocks_are = holds;
     }
 
 -- what was laid out is a home
-pub laid_out_home : (n : Numbers) (blocks : List (List ℕ)) (image : List ℕ) → IsInLimits n → IsLaidOut (first_slot n) blocks (home_length n) image → IsHome (first_super n) blocks image
+pub laid_out_home : (n : Numbers) (blocks : List (List ℕ)) (image : List ℕ) → IsInLimits n → IsLaidOut (slot_bytes (first_super n)) blocks (home_length n) image → IsHome (first_super n) blocks image
 laid_out_home n blocks image is laid =
-    let rest = drop (length (first_slot n)) image in
+    let rest = drop (length (slot_bytes (first_super n))) image in
     let e = laid.slot_is in
     subst (λ (i : List ℕ). IsHome (first_super n) blocks i) (sym e)
     (is_home n blocks rest is (ap length (sym e) ∙ laid.size_is) (ap (λ (i : List ℕ). slice_index i 4096) (sym e) ∙ laid.closed)
     (subst (λ (i : List ℕ). HoldsBlocks i blocks (length blocks)) e laid.blocks_are))
 
 -- and so it is at a crash
-pub made_by : (disk : DiskView) (n : Numbers) (blocks : List (List ℕ)) → IsInLimits n → IfSome disk.bytes (λ image. IsLaidOut (first_slot n) blocks (home_length n) image)
+pub made_by : (disk : DiskView) (n : Numbers) (blocks : List (List ℕ)) → IsInLimits n → IfSome disk.bytes (λ image. IsLaidOut (slot_bytes (first_super n)) blocks (home_length n) image)
     → ((image : List ℕ) → disk.may_leave disk.calls image ≡ true → disk.bytes ≡ Some image) → IsMade (first_super n) blocks disk
 made_by disk n blocks is laid only = record {
   left = λ image may. let now = rw (only image may) at laid in laid_out_home n blocks image is now;
@@ -97,15 +106,15 @@ laid image slot blocks size many is some short holds =
     let whole_many = length-replaced both 0 slot (omega (arith, many, is, first_many, both_many)) in
     let e = gate_last both slot some (omega (arith, many, is, first_many, both_many)) in
     let shut : slice_range whole 4096 4097 ≡ 0 ∷ [] =
-    behind-replaced both 0 slot 4096 4097 (omega (arith, many, is, first_many, both_many)) (omega arith) ∙ at-replaced first 4096 (0 ∷ []) 4097 (omega (arith, many, is, first_many)) refl in
+    replaced_part both 0 slot 4096 4097 (omega (arith, many, is, first_many, both_many)) (inr (omega arith)) ∙ at-replaced first 4096 (0 ∷ []) 4097 (omega (arith, many, is, first_many)) refl in
     let out : IsLaidOut slot blocks size whole = record {
       slot_is = grind (arith, common_steps);
       closed = sym (part whole 4096 1 0 (omega arith)) ∙ ap (λ (p : List ℕ). slice_index p 0) shut;
       size_is = whole_many ∙ both_many ∙ first_many ∙ many;
       blocks_are = λ b below.
-          behind-replaced both 0 slot (8192 + 512 * b) (8192 + 512 * b + 512) (omega (arith, many, is, first_many, both_many)) (omega arith)
-          ∙ behind-replaced first 4096 (0 ∷ []) (8192 + 512 * b) (8192 + 512 * b + 512) (omega (arith, many, is, first_many)) (omega arith)
-          ∙ behind-replaced image 0 (0 ∷ []) (8192 + 512 * b) (8192 + 512 * b + 512) (omega (arith, many, is)) (omega arith)
+          replaced_part both 0 slot (8192 + 512 * b) (8192 + 512 * b + 512) (omega (arith, many, is, first_many, both_many)) (inr (omega arith))
+          ∙ replaced_part first 4096 (0 ∷ []) (8192 + 512 * b) (8192 + 512 * b + 512) (omega (arith, many, is, first_many)) (inr (omega arith))
+          ∙ replaced_part image 0 (0 ∷ []) (8192 + 512 * b) (8192 + 512 * b + 512) (omega (arith, many, is)) (inr (omega arith))
           ∙ holds b below;
     } in
     subst (λ (i : List ℕ). IsLaidOut slot blocks size i) (sym e) out
@@ -135,12 +144,16 @@ zeros_taken n few = take-replicate n 64 zero_tail (omega arith)
 pub first_told : (n : Numbers) (tails : List Tail) → tails ≡ zero_tails → n.cores ≤ 8 → super_with 1 n (take n.cores tails) ≡ first_super n
 first_told n tails zero few = ap (λ (t : List Tail). super_with 1 n t) (ap (take n.cores) zero ∙ zeros_taken n.cores few)
 
+-- and its slot
+pub first_spelled : (n : Numbers) (tails : List Tail) (slot spelled : List ℕ) → slot ≡ spelled → spelled ≡ slot_bytes (super_with 1 n (take n.cores tails)) → tails ≡ zero_tails → n.cores ≤ 8 → slot ≡ slot_bytes (first_super n)
+first_spelled n tails slot spelled same is zero few = same ∙ is ∙ ap slot_bytes (first_told n tails zero few)
+
 -- with the slot and the size as they were passed
-pub made_from : (disk : DiskView) (n : Numbers) (blocks : List (List ℕ)) (slot : List ℕ) (size : ℕ) → slot ≡ first_slot n → size ≡ home_length n → IsInLimits n → IfSome disk.bytes (λ image. IsLaidOut slot blocks size image)
+pub made_from : (disk : DiskView) (n : Numbers) (blocks : List (List ℕ)) (slot : List ℕ) (size : ℕ) → slot ≡ slot_bytes (first_super n) → size ≡ home_length n → IsInLimits n → IfSome disk.bytes (λ image. IsLaidOut slot blocks size image)
     → ((image : List ℕ) → disk.may_leave disk.calls image ≡ true → disk.bytes ≡ Some image) → IsMade (first_super n) blocks disk
 made_from disk n blocks slot size same long is laid only =
     made_by disk n blocks is
-    (subst (λ (z : ℕ). IfSome disk.bytes (λ image. IsLaidOut (first_slot n) blocks z image)) long
+    (subst (λ (z : ℕ). IfSome disk.bytes (λ image. IsLaidOut (slot_bytes (first_super n)) blocks z image)) long
     (subst (λ (s : List ℕ). IfSome disk.bytes (λ image. IsLaidOut s blocks size image)) same laid)) only
 
 -- the first tails are sound

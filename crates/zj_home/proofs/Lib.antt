@@ -5,6 +5,6 @@ pub mod Replaced
 pub mod MadeLemmas
 pub mod BlockLemmas
 pub mod LaidOut
-pub mod Moments
+pub mod Further
 pub mod Gates
 pub mod MadeMoments

@@ -1,25 +1,42 @@
 -- The first slot of a home that was just made, read back.
-use Rattle.std.proofs.Common.{◌≡◌, ℕ, zero, suc, ◌+◌, ◌*◌, ◌^◌, ◌<◌, ◌≤◌, List, ◌∷◌, ◌++◌, length, slice_index, Option, Some, None, refl, sym, ap, subst, ◌∙◌, arith, replicate}
-use Rattle.std.specs.Prelude.{map}
-use Rattle.std.specs.List.{range_with_len}
-use Rattle.std.specs.Int.{w32, w64, to_le_bytes}
+use Rattle.std.proofs.Common.{◌≡◌, ℕ, zero, suc, ◌+◌, ◌*◌, ◌^◌, ◌<◌, ◌≤◌, List, ◌++◌, length, slice_index, Option, Some, None, refl, sym, ap, subst, ◌∙◌, arith, replicate}
+use Rattle.std.specs.Prelude.{map, option_map}
+use Rattle.std.specs.List.{flat_map, range_with_len}
 use Rattle.std.proofs.lemmas.Nat.{from_le_bytes-to_le_bytes_4, from_le_bytes-to_le_bytes_8}
 use Rattle.std.proofs.lemmas.Grind.{common_steps}
 use Rattle.std.proofs.lemmas.Bool.Decides.{nat_tests}
 use Rattle.std.proofs.lemmas.List.{get_or-append_right, get_or_append_left, get_or-take, get_or-replicate, length-append, length-replicate}
+use Rattle.std.proofs.lemmas.List.{replicate-append-replicate}
+use Rattle.std.proofs.lemmas.List.Concat.{flat_map-cons}
 use Rattle.std.proofs.lemmas.List.FromFn.{fill_by_all}
 use Rattle.zj_block.specs.Numbers.{zero_tail}
 use Rattle.zj_block.specs.Sizes.{Numbers, IsInLimits}
 use Rattle.zj_block.specs.declared.numbers.Tail.{Tail}
-use Rattle.zj_home.specs.Super.{counting, first_fault, head_of, numbers_fault, numbers_in, letters, tail_fault, tail_in, u32_in, u64_in}
-use Rattle.zj_home.specs.Made.{first_slot}
+use Rattle.zj_home.specs.Super.{counting, field_fault, head_of, numbers_fault, numbers_in, tail_fault, tail_in, u32_in, u64_in}
+use Rattle.zj_block.specs.Faults.{first_fault}
+use Rattle.zj_block.proofs.Limits.{none_out}
+use Rattle.zj_home.specs.Made.{field_bytes, first_super, slot_bytes, tail_bytes}
 use Rattle.zj_home.specs.declared.fault.HomeFault.{HomeFault}
 use Rattle.zj_home.proofs.FieldReads.{u64_read}
 use Rattle.zj_home.proofs.FaultLemmas.{none_more}
 
+-- the slot of a home that was just made
+abbrev first_slot : Numbers → List ℕ
+first_slot n = slot_bytes (first_super n)
+
 -- the fields in front of the tails
 abbrev fields : Numbers → List ℕ
-fields n = 1 ∷ letters ++ to_le_bytes w64 1 ++ to_le_bytes w32 n.version ++ to_le_bytes w32 n.cores ++ to_le_bytes w32 n.blocks ++ to_le_bytes w32 n.nodes ++ to_le_bytes w64 n.area
+fields n = field_bytes 1 n
+
+-- tails of zeros are zeros
+zeros_spelled : (c : ℕ) → flat_map tail_bytes (replicate c zero_tail) ≡ replicate (16 * c) 0
+zeros_spelled zero = refl
+zeros_spelled (suc c) =
+    let e : 16 * suc c ≡ 16 + 16 * c = omega arith in
+    flat_map-cons tail_bytes zero_tail (replicate c zero_tail) ∙ ap (λ (l : List ℕ). tail_bytes zero_tail ++ l) (zeros_spelled c) ∙ replicate-append-replicate 16 (16 * c) 0 ∙ sym (ap (λ (k : ℕ). replicate k 0) e)
+
+slot_is : (n : Numbers) → first_slot n ≡ fields n ++ replicate (16 * n.cores) 0
+slot_is n = ap (λ (l : List ℕ). fields n ++ l) (zeros_spelled n.cores)
 
 -- the head of an image with that slot
 abbrev head : Numbers → List ℕ → List ℕ
@@ -61,7 +78,7 @@ numbers_at n rest is =
 
 -- how long the slot is
 pub length-first_slot : (n : Numbers) → length (first_slot n) ≡ 40 + 16 * n.cores
-length-first_slot n = length-append (fields n) (replicate (16 * n.cores) 0) ∙ ap (λ k. 40 + k) (length-replicate (16 * n.cores) 0)
+length-first_slot n = ap length (slot_is n) ∙ length-append (fields n) (replicate (16 * n.cores) 0) ∙ ap (λ k. 40 + k) (length-replicate (16 * n.cores) 0)
 
 -- behind the fields there are zeros
 zero_byte : (n : Numbers) (rest : List ℕ) (m : ℕ) → 40 ≤ m → m < 40 + 16 * n.cores → m < 8192 → slice_index (head n rest) m ≡ 0
@@ -70,6 +87,7 @@ zero_byte n rest m behind within below =
     let many : length (first_slot n) ≡ 40 + 16 * n.cores = length-first_slot n in
     get_or-take 8192 (first_slot n ++ rest) m 0 below
     ∙ get_or_append_left (first_slot n) rest 0 m (omega (arith, many))
+    ∙ ap (λ (l : List ℕ). slice_index l m) (slot_is n)
     ∙ get_or-append_right (fields n) zeros 40 m 0 refl behind
     ∙ grind (arith, common_steps, get_or-replicate)
 
@@ -113,7 +131,7 @@ no_tail_fault n rest is =
 
 -- numbers within their limits have no fault
 pub no_number_fault : (n : Numbers) → IsInLimits n → numbers_fault 0 n ≡ None
-no_number_fault n is = grind (arith, common_steps, nat_tests, is.one_version, is.least_blocks, is.most_blocks, is.least_nodes, is.most_nodes, is.whole_nodes, is.least_cores, is.most_cores, is.some_data, is.least_area, is.most_area)
+no_number_fault n is = ap (option_map (field_fault 0 n)) (none_out n is)
 
 -- the first slot counts
 pub first_counts : (n : Numbers) (rest : List ℕ) → slice_index (head n rest) 4096 ≡ 0 → counting (head n rest) ≡ Some 0

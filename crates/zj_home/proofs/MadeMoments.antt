@@ -3,13 +3,12 @@ use Rattle.std.proofs.Common.{◌≡◌, ℕ, ◌+◌, ◌*◌, ◌≤◌, true,
 use Rattle.std.specs.Prelude.{◌⊎◌, IfSome, Result, Ok}
 use Rattle.std.specs.Option.{option_map}
 use Rattle.zj_block.specs.Sizes.{Numbers, IsInLimits}
-use Rattle.zj_dev.specs.Disk.{Continues, DiskView, EachImageSince, IsDisk, IsSettled, replaced}
+use Rattle.zj_dev.specs.Disk.{Continues, DiskView, IsDisk, IsSettled, LeadsTo, StaysSince, TearsSince, replaced}
 use Rattle.zj_home.specs.Super.{home_length}
-use Rattle.zj_home.specs.Made.{GoesFurther, HasNoLetters, HoldsBlocks, IsLaidOut, IsNoImage, IsShut, LeadsTo, MakesOnly, TearsSince, first_slot, first_super}
+use Rattle.zj_home.specs.Made.{GoesFurther, HasNoLetters, HoldsBlocks, IsLaidOut, IsNoImage, IsShut, MakesOnly, first_super, slot_bytes}
 use Rattle.zj_home.proofs.Gates.{closed_shut, letters_block, no_letters, shut_body, shut_image, shut_or_open}
-use Rattle.zj_home.proofs.ImageLemmas.{told_length}
 use Rattle.zj_home.proofs.LaidOut.{laid_out, laid_out_home}
-use Rattle.zj_home.proofs.Moments.{continues_then, leads_stays, leads_then, leads_torn, leads_weak}
+use Rattle.zj_dev.proofs.DiskLaws.{told_length, continues_trans, leads_synced, leads_then, leads_torn, leads_weaker}
 
 -- the bytes with both gates closed
 abbrev pub closed : List ℕ → List ℕ
@@ -57,13 +56,13 @@ body_leads old new count few torn = leads_torn old new 1 count torn (λ before i
 
 -- with the slot or without it
 pub or_shut : (old new : DiskView) (bytes : Option (List ℕ)) (slot : List ℕ) → LeadsTo IsShut IsShut old new → LeadsTo IsShut (IsShutOr bytes slot) old new
-or_shut old new bytes slot shut = leads_weak old new (λ image h. inl h) shut
+or_shut old new bytes slot shut = leads_weaker old new (λ image h. inl h) shut
 
 -- the body, a sync, and the gate
 pub slot_so_far : (first body mid new : DiskView) (slot front back : List ℕ) → front ≡ take 1 slot → back ≡ drop 1 slot → take 1 slot ≡ 1 ∷ [] → length slot ≤ 4096
-    → GoesFurther first body → TearsSince 1 (length back) first body → body.bytes ≡ option_map (λ bytes. replaced bytes 1 back) first.bytes
-    → GoesFurther body mid → EachImageSince body.calls mid (λ image. body.may_leave body.calls image ≡ true) → mid.bytes ≡ body.bytes → IsSettled mid
-    → GoesFurther mid new → TearsSince 0 (length front) mid new
+    → Continues first body → TearsSince 1 (length back) first body → body.bytes ≡ option_map (λ bytes. replaced bytes 1 back) first.bytes
+    → Continues body mid → StaysSince body mid → mid.bytes ≡ body.bytes → IsSettled mid
+    → Continues mid new → TearsSince 0 (length front) mid new
     → LeadsTo IsShut (IsShutOr first.bytes slot) first new
 slot_so_far first body mid new slot front back front_is back_is gate short one torn wrote two stays synced settled three opens =
     let n : length (drop 1 slot) ≤ 4095 = omega (arith, length-drop 1 slot) in
@@ -71,8 +70,8 @@ slot_so_far first body mid new slot front back front_is back_is gate short one t
     let one_byte : length front ≡ 1 = ap length front_is ∙ ap length gate in
     let bytes : mid.bytes ≡ option_map (λ bytes. replaced bytes 1 (drop 1 slot)) first.bytes = synced ∙ wrote ∙ ap (λ (p : List ℕ). option_map (λ bytes. replaced bytes 1 p) first.bytes) back_is in
     let opened : TearsSince 0 1 mid new = subst (λ (k : ℕ). TearsSince 0 k mid new) one_byte opens in
-    leads_then first mid new (continues_then first body mid one.continues two.continues) three.continues (λ image still. inl still)
-    (leads_then first body mid one.continues two.continues (λ image h. h) (body_leads first body (length back) few torn) (leads_stays body mid stays))
+    leads_then first mid new (continues_trans first body mid one two) three (λ image still. inl still)
+    (leads_then first body mid one two (λ image h. h) (body_leads first body (length back) few torn) (leads_synced body mid stays))
     (gate_leads first mid new slot settled bytes gate opened)
 
 -- once the gates were closed, and that outlasts a crash
@@ -113,14 +112,14 @@ slot_leads first wrote shut new slot blocks size is same many some short holds c
 
 -- what has no letters is no image, at each moment
 pub none_leads : (old new : DiskView) (H : List ℕ → Type 0) → LeadsTo HasNoLetters HasNoLetters old new → LeadsTo HasNoLetters (λ image. IsNoImage image ⊎ H image) old new
-none_leads old new H letters = leads_weak old new (λ image none. inl (no_letters image none)) letters
+none_leads old new H letters = leads_weaker old new (λ image none. inl (no_letters image none)) letters
 
 -- the image of a home
-pub makes_only : (old new : DiskView) (n : Numbers) (blocks : List (List ℕ)) (slot : List ℕ) (size : ℕ) → slot ≡ first_slot n → size ≡ home_length n → IsInLimits n
+pub makes_only : (old new : DiskView) (n : Numbers) (blocks : List (List ℕ)) (slot : List ℕ) (size : ℕ) → slot ≡ slot_bytes (first_super n) → size ≡ home_length n → IsInLimits n
     → LeadsTo HasNoLetters (λ image. IsNoImage image ⊎ IsLaidOut slot blocks size image) old new → MakesOnly (first_super n) blocks old new
 makes_only old new n blocks slot size same long is leads =
-    leads_weak old new (λ image h. elim h [
+    leads_weaker old new (λ image h. elim h [
       | inl none ↦ inl none
       | inr laid ↦ inr (laid_out_home n blocks image is
-          (subst (λ (z : ℕ). IsLaidOut (first_slot n) blocks z image) long (subst (λ (s : List ℕ). IsLaidOut s blocks size image) same laid)))
+          (subst (λ (z : ℕ). IsLaidOut (slot_bytes (first_super n)) blocks z image) long (subst (λ (s : List ℕ). IsLaidOut s blocks size image) same laid)))
     ]) leads

@@ -11,8 +11,8 @@ pub record HomeView (D : Type 0) : Type 0 where
   pub device : D
   pub told : Super
 
--- A fault of the device comes where its count rose. One of memory comes before any call, and any other is the first
--- that its bytes have.
+-- Why a device was not opened. A fault of the device comes where its count rose, one of memory before any call, and any other
+-- is the first that its bytes have.
 abbrev pub IsCause : DiskView → DiskView → HomeFault → Type 0
 IsCause old new faults.DiskFault = Rose old.faults new.faults
 IsCause old new faults.NoMemory = new ≡ old

@@ -1,11 +1,11 @@
 //! Why a home device was not made, opened or read.
 
-use thiserror::Error;
+ghost use Rattle.std.specs.Prelude.{◌≡◌};
+ghost use Rattle.zj_home.specs.declared.fault.HomeFault.TheVariants as faults;
 
-/// The device failed, and its count of faults rose.
-#[derive(Clone, Copy, Debug, PartialEq, Eq, Error)]
-#[error("disk")]
-pub struct DiskFault;
+use std::alloc::AllocError;
+use thiserror::Error;
+use zj_dev::{DiskFailed, DiskFault};
 
 /// Why a device was not made a home, or not opened as one.
 #[derive(Clone, Copy, Debug, PartialEq, Eq, Error)]
@@ -25,6 +25,30 @@ pub enum HomeFault {
     /// There was no memory.
     #[error("memory")]
     NoMemory,
+}
+
+impl From<AllocError> for HomeFault {
+    ghost from_gives = { λ _ fault. fault ≡ faults.NoMemory };
+
+    fn from(_error: AllocError) -> HomeFault {
+        HomeFault::NoMemory
+    }
+}
+
+impl From<DiskFailed> for HomeFault {
+    ghost from_gives = { λ _ fault. fault ≡ faults.DiskFault };
+
+    fn from(_error: DiskFailed) -> HomeFault {
+        HomeFault::DiskFault
+    }
+}
+
+impl From<DiskFault> for HomeFault {
+    ghost from_gives = { λ _ fault. fault ≡ faults.DiskFault };
+
+    fn from(_error: DiskFault) -> HomeFault {
+        HomeFault::DiskFault
+    }
 }
 
 /// A device that was not made a home or not opened as one, and why.

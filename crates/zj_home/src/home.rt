@@ -1,21 +1,21 @@
 //! The home device: opening it, and reading its super and its blocks.
 
-ghost use Rattle.std.specs.Prelude.{◌≡◌, ◌+◌, ◌<◌, None, Some, IfOk, IfErr, OnOk, OnErr, IfSome, All, length, slice_get, take, vec_len};
+ghost use Rattle.std.specs.Prelude.{◌≡◌, ◌+◌, ◌^◌, ◌<◌, IfOk, IfErr, OnOk, OnErr, IfSome, All, length, slice_get, take, vec_len};
 ghost use Rattle.zj_block.specs.Block.{IsContent, bytes_of};
 ghost use Rattle.zj_dev.specs.Fault.{Rose};
 ghost use Rattle.zj_dev.specs.Disk.{LeavesAll, Continues, OnlyReads};
 ghost use Rattle.zj_home.specs.Home.{IsCause};
 ghost use Rattle.zj_home.specs.Made.{IsMade, IsFailure, MakesOnly, first_super};
 ghost use Rattle.zj_home.specs.Told.{super_told};
-ghost use Rattle.zj_home.specs.Super.{IsTail, image_fault, super_of, home_length, block_bytes_in};
+ghost use Rattle.zj_home.specs.Super.{IsTail, OpensAs, home_length, block_bytes_in};
 
-use crate::fault::{DiskFault, HomeFault, HomeRefused};
+use crate::fault::{HomeFault, HomeRefused};
 use crate::make::make_on;
 use crate::slot::{HEAD_LEN, Told, read_super};
 use std::alloc::{AllocError, Global};
 use std::marker::Model;
 use zj_block::{BLOCK_LEN, Block, BlockNo, Blocks, Sizes, Tail};
-use zj_dev::Disk;
+use zj_dev::{Disk, DiskFault};
 
 /// A home that was opened or made: its device, and what its super tells.
 #[derive(Debug, Drop)]
@@ -25,7 +25,7 @@ pub struct Home<D: Disk> {
 }
 
 impl<D: Disk> Model for Home<D> {
-    ghost use Rattle.std.specs.Prelude.{◌≡◌, All, take};
+    ghost use Rattle.std.specs.Prelude.{◌≡◌, ◌^◌, ◌<◌, All, take};
     ghost use Rattle.zj_home.specs.Home.{HomeView};
     ghost use Rattle.zj_home.specs.Super.{IsTail, home_length};
     ghost use Rattle.zj_home.specs.Told.{super_told};
@@ -34,7 +34,7 @@ impl<D: Disk> Model for Home<D> {
 
     ghost view = { λ h. record { device = h.device; told = super_told h.told } };
 
-    ghost invariant = { λ h. ((D.view h.device).size ≡ home_length h.told.sizes) × All (IsTail h.told.sizes) (take h.told.sizes.cores h.told.tails) };
+    ghost invariant = { λ h. ((D.view h.device).size ≡ home_length h.told.sizes) × All (IsTail h.told.sizes) (take h.told.sizes.cores h.told.tails) × (h.told.epoch < 2 ^ 62) };
 }
 
 /// That many zeros.
@@ -46,25 +46,19 @@ fn zeros(alloc: Global, count: usize) -> Result<Vec<u8>, AllocError>
 
 /// Reads the super of a device, if it is a home's.
 fn read_told<D: Disk>(alloc: Global, d: &mut D) -> Result<Told, HomeFault>
-    ensures told { IfOk result (λ told. IfSome (D.view d.old).bytes (λ image. (image_fault image ≡ None) × (super_of image ≡ Some (super_told told)))) }
+    ensures opens { IfOk result (λ told. IfSome (D.view d.old).bytes (λ image. OpensAs image (super_told told))) }
     ensures size { IfOk result (λ told. (D.view d.old).size ≡ home_length told.sizes) }
-    ensures sound { IfOk result (λ told. All (IsTail told.sizes) (take told.sizes.cores told.tails)) }
-    ensures left { OnlyReads (D.view d.old) (D.view d.new) }
+    ensures tails { IfOk result (λ told. All (IsTail told.sizes) (take told.sizes.cores told.tails)) }
+    ensures epoch { IfOk result (λ told. told.epoch < 2 ^ 62) }
+    ensures read_only { OnlyReads (D.view d.old) (D.view d.new) }
     ensures cause { IfErr result (IsCause (D.view d.old) (D.view d.new)) }
 {
     let len = d.len();
-    // The count of calls fits its type, so it doesn't fall.
-    let calls = d.calls();
-    prove!(calls <= u64::MAX);
     if len < HEAD_LEN as u64 {
         return Err(HomeFault::NotAnImage { at: 0 });
     }
-    let Ok(mut head) = zeros(alloc, HEAD_LEN) else {
-        return Err(HomeFault::NoMemory);
-    };
-    if d.read(0, &mut head).is_err() {
-        return Err(HomeFault::DiskFault);
-    }
+    let mut head = zeros(alloc, HEAD_LEN)?;
+    d.read(0, &mut head)?;
     read_super(&head, len)
 }
 
@@ -73,16 +67,16 @@ impl<D: Disk> Home<D> {
     /// may leave is that home, of epoch 1 and with all tails 0. Where the letters stood behind no gate, a crash
     /// at any moment until then leaves that home, or bytes that are refused as no image.
     ///
-    /// `DiskFault` tells that the device failed; it may hold anything. `NoMemory` tells that there was none, and
-    /// comes before any call. The device is given back.
+    /// `DiskFault` tells that the device failed; it may hold anything, and is given back. No other fault comes,
+    /// and no memory is taken.
     pub fn make(
-        alloc: Global,
+        _alloc: Global,
         d: D,
         sizes: &Sizes,
         blocks: &Blocks,
     ) -> Result<Home<D>, HomeRefused<D>>
-        requires size { (D.view d).size ≡ home_length sizes.now }
-        requires many { length blocks.now ≡ sizes.now.blocks }
+        requires device_size { (D.view d).size ≡ home_length sizes.now }
+        requires block_count { length blocks.now ≡ sizes.now.blocks }
         ensures made { IfOk result (λ home. IsMade (first_super sizes.now) blocks.now (D.view home.device)) }
         ensures told { IfOk result (λ home. home.told ≡ first_super sizes.now) }
         ensures continues { IfOk result (λ home. Continues (D.view d) (D.view home.device)) }
@@ -92,7 +86,7 @@ impl<D: Disk> Home<D> {
         ensures cause { IfErr result (λ refused. IsFailure (D.view d) (D.view refused.device) refused.fault) }
     {
         let mut device = d;
-        match make_on(alloc, &mut device, sizes, blocks) {
+        match make_on(&mut device, sizes, blocks) {
             Ok(told) => Ok(Home { device, told }),
             Err(fault) => Err(HomeRefused { device, fault }),
         }
@@ -104,10 +98,10 @@ impl<D: Disk> Home<D> {
     /// `DiskFault` that the device failed, and `NoMemory` that there was none, before any call. The device is
     /// then given back.
     pub fn open(alloc: Global, d: D) -> Result<Home<D>, HomeRefused<D>>
-        ensures told { IfOk result (λ home. IfSome (D.view d).bytes (λ image. (image_fault image ≡ None) × (super_of image ≡ Some home.told))) }
-        ensures size { IfOk result (λ home. (D.view d).size ≡ home_length home.told.sizes) }
-        ensures left { IfOk result (λ home. OnlyReads (D.view d) (D.view home.device)) }
-        ensures refused_left { IfErr result (λ refused. OnlyReads (D.view d) (D.view refused.device)) }
+        ensures opens { IfOk result (λ home. IfSome (D.view d).bytes (λ image. OpensAs image home.told)) }
+        ensures device_size { IfOk result (λ home. (D.view d).size ≡ home_length home.told.sizes) }
+        ensures read_only { IfOk result (λ home. OnlyReads (D.view d) (D.view home.device)) }
+        ensures refused_read_only { IfErr result (λ refused. OnlyReads (D.view d) (D.view refused.device)) }
         ensures cause { IfErr result (λ refused. IsCause (D.view d) (D.view refused.device) refused.fault) }
     {
         let mut device = d;
@@ -126,7 +120,8 @@ impl<D: Disk> Home<D> {
 
     /// How often the super was replaced, counted from 1.
     pub fn epoch(&self) -> u64
-        ensures { result ≡ self.now.told.epoch }
+        ensures epoch { result ≡ self.now.told.epoch }
+        ensures below_end { result < 2 ^ 62 }
     {
         self.told.epoch
     }
@@ -135,8 +130,8 @@ impl<D: Disk> Home<D> {
     /// has room behind each tail, and its number is below 2^62.
     pub fn tail(&self, core: u32) -> Option<Tail>
         ensures tail { result ≡ slice_get self.now.told.tails core }
-        ensures many { length self.now.told.tails ≡ self.now.told.sizes.cores }
-        ensures sound { IfSome result (IsTail self.now.told.sizes) }
+        ensures tail_count { length self.now.told.tails ≡ self.now.told.sizes.cores }
+        ensures tail_sound { IfSome result (IsTail self.now.told.sizes) }
     {
         let cores = self.told.sizes.cores();
         let tail = self.told.tails.at(core);
@@ -148,16 +143,14 @@ impl<D: Disk> Home<D> {
         requires { b.0 < self.old.told.sizes.blocks }
         ensures block { OnOk result (IfSome (D.view self.old.device).bytes (λ image. bytes_of into.new ≡ block_bytes_in image b.0)) }
         ensures content { OnOk result (IsContent into.new) }
-        ensures kept { OnErr result (into.new ≡ into.old) }
-        ensures left { LeavesAll (D.view self.old.device) (D.view self.new.device) }
+        ensures into_kept { OnErr result (into.new ≡ into.old) }
+        ensures device_left { LeavesAll (D.view self.old.device) (D.view self.new.device) }
         ensures told { self.new.told ≡ self.old.told }
         ensures cause { OnErr result (Rose (D.view self.old.device).faults (D.view self.new.device).faults) }
     {
         let mut bytes = [0u8; BLOCK_LEN];
-        let at = HEAD_LEN as u64 + 512 * u64::from(b.0);
-        if self.device.read(at, &mut bytes).is_err() {
-            return Err(DiskFault);
-        }
+        let at = HEAD_LEN as u64 + BLOCK_LEN as u64 * u64::from(b.0);
+        self.device.read(at, &mut bytes)?;
         *into = Block::from_bytes(&bytes);
         Ok(())
     }

@@ -3,16 +3,16 @@
 ghost use Rattle.std.specs.Prelude.{◌≡◌, ℕ, ◌+◌, ◌*◌, ◌^◌, ◌<◌, ◌≤◌, ◌⊎◌, [], ◌∷◌, ◌++◌, true, Some, IfOk, OnOk, OnErr, IfErr, IfSome, All, length, take, drop, List, option_map};
 ghost use Rattle.zj_block.specs.Block.{bytes_of};
 ghost use Rattle.zj_dev.specs.Fault.{Rose};
-ghost use Rattle.zj_dev.specs.Disk.{IsDisk, Continues, EachImageSince, IsSettled, replaced};
+ghost use Rattle.zj_dev.specs.Disk.{IsDisk, Continues, IsSettled, LeadsTo, TearsSince, replaced};
 ghost use Rattle.zj_home.specs.Super.{IsTail, home_length};
 ghost use Rattle.zj_home.specs.Told.{super_told};
-ghost use Rattle.zj_home.specs.Made.{GoesFurther, HasNoLetters, HoldsBlocks, IsFailure, IsLaidOut, IsMade, IsNoImage, IsShut, LeadsTo, MakesOnly, TearsSince, first_slot as slot_of, first_super};
+ghost use Rattle.zj_home.specs.Made.{GoesFurther, HasNoLetters, HoldsBlocks, IsFailure, IsLaidOut, IsMade, IsNoImage, IsShut, MakesOnly, first_super};
 
-use crate::fault::{DiskFault, HomeFault};
-use crate::slot::{HEAD_LEN, LETTERS, OPEN, SECOND_SLOT, Told, home_len};
-use std::alloc::{AllocError, Global};
-use zj_block::{BLOCK_LEN, Block, Blocks, Sizes, Tails};
-use zj_dev::Disk;
+use crate::fault::HomeFault;
+use crate::slot::{HEAD_LEN, SECOND_SLOT, Told, home_len};
+use crate::spelling::spell;
+use zj_block::{BLOCK_LEN, Block, Blocks, MAX_BLOCKS, Sizes, Tails};
+use zj_dev::{Disk, DiskFault, sync, write_at};
 
 /// The gate of a slot that is closed.
 const CLOSED: u8 = 0;
@@ -20,63 +20,14 @@ const CLOSED: u8 = 0;
 /// The epoch of a home that was just made.
 pub const FIRST_EPOCH: u64 = 1;
 
-/// The bytes of the first slot of a home that was just made, with the gate open.
-pub fn first_slot(alloc: Global, sizes: &Sizes) -> Result<Vec<u8>, AllocError>
-    ensures { IfOk result (λ slot. slot.items ≡ slot_of sizes.now) }
-{
-    let mut slot = Vec::new(alloc);
-    slot.push(OPEN)?;
-    slot.extend_from_slice(LETTERS)?;
-    slot.extend_from_slice(&FIRST_EPOCH.to_le_bytes())?;
-    slot.extend_from_slice(&sizes.version().to_le_bytes())?;
-    slot.extend_from_slice(&sizes.cores().to_le_bytes())?;
-    slot.extend_from_slice(&sizes.blocks().to_le_bytes())?;
-    slot.extend_from_slice(&sizes.nodes().to_le_bytes())?;
-    slot.extend_from_slice(&sizes.area().to_le_bytes())?;
-    let len = 40 + 16 * sizes.cores() as usize;
-    slot.resize(len, 0)?;
-    Ok(slot)
-}
-
-/// Writes a piece.
-fn write_at<D: Disk>(d: &mut D, at: u64, piece: &[u8]) -> Result<(), DiskFault>
-    requires within { at + length piece.now ≤ (D.view d.old).size }
-    requires counts { (D.view d.old).calls < 2 ^ 64 }
-    ensures ok { OnOk result ((D.view d.new).bytes ≡ option_map (λ bytes. replaced bytes at piece.now) (D.view d.old).bytes) }
-    ensures torn { TearsSince at (length piece.now) (D.view d.old) (D.view d.new) }
-    ensures kept { GoesFurther (D.view d.old) (D.view d.new) }
-    ensures cause { OnErr result (Rose (D.view d.old).faults (D.view d.new).faults) }
-{
-    match d.write(at, piece) {
-        Ok(()) => Ok(()),
-        Err(_) => Err(DiskFault),
-    }
-}
-
-/// Makes all that was written outlast a crash.
-fn sync<D: Disk>(d: &mut D) -> Result<(), DiskFault>
-    requires is_disk { IsDisk (D.view d.old) }
-    requires counts { (D.view d.old).calls < 2 ^ 64 }
-    ensures ok { OnOk result ((D.view d.new).bytes ≡ (D.view d.old).bytes) }
-    ensures only { OnOk result (IsSettled (D.view d.new)) }
-    ensures stays { EachImageSince (D.view d.old).calls (D.view d.new) (λ image. (D.view d.old).may_leave (D.view d.old).calls image ≡ true) }
-    ensures kept { GoesFurther (D.view d.old) (D.view d.new) }
-    ensures cause { OnErr result (Rose (D.view d.old).faults (D.view d.new).faults) }
-{
-    match d.sync() {
-        Ok(()) => Ok(()),
-        Err(_) => Err(DiskFault),
-    }
-}
-
 /// Writes a block to its place.
 fn write_block<D: Disk>(d: &mut D, b: usize, block: &Block) -> Result<(), DiskFault>
-    requires within { 8192 + 512 * b + 512 ≤ (D.view d.old).size }
-    requires few { b < 4096 }
-    requires counts { (D.view d.old).calls < 2 ^ 64 }
-    ensures ok { OnOk result ((D.view d.new).bytes ≡ option_map (λ bytes. replaced bytes (8192 + 512 * b) (bytes_of block.now)) (D.view d.old).bytes) }
-    ensures many { length (bytes_of block.now) ≡ 512 }
-    ensures torn { TearsSince (8192 + 512 * b) 512 (D.view d.old) (D.view d.new) }
+    requires is_disk { IsDisk (D.view d.old) }
+    requires within { HEAD_LEN + BLOCK_LEN * b + BLOCK_LEN ≤ (D.view d.old).size }
+    requires few { b < MAX_BLOCKS }
+    ensures ok { OnOk result ((D.view d.new).bytes ≡ option_map (λ bytes. replaced bytes (HEAD_LEN + BLOCK_LEN * b) (bytes_of block.now)) (D.view d.old).bytes) }
+    ensures many { length (bytes_of block.now) ≡ BLOCK_LEN }
+    ensures torn { TearsSince (HEAD_LEN + BLOCK_LEN * b) BLOCK_LEN (D.view d.old) (D.view d.new) }
     ensures kept { GoesFurther (D.view d.old) (D.view d.new) }
     ensures cause { OnErr result (Rose (D.view d.old).faults (D.view d.new).faults) }
 {
@@ -87,9 +38,9 @@ fn write_block<D: Disk>(d: &mut D, b: usize, block: &Block) -> Result<(), DiskFa
 
 /// Closes both gates, so that no crash leaves an open one.
 pub fn close_gates<D: Disk>(d: &mut D) -> Result<(), DiskFault>
-    requires long { 8192 ≤ (D.view d.old).size }
-    requires counts { (D.view d.old).calls < 2 ^ 64 }
-    ensures ok { OnOk result ((D.view d.new).bytes ≡ option_map (λ bytes. replaced (replaced bytes 0 (0 ∷ [])) 4096 (0 ∷ [])) (D.view d.old).bytes) }
+    requires is_disk { IsDisk (D.view d.old) }
+    requires long { HEAD_LEN ≤ (D.view d.old).size }
+    ensures ok { OnOk result ((D.view d.new).bytes ≡ option_map (λ bytes. replaced (replaced bytes 0 (0 ∷ [])) SECOND_SLOT (0 ∷ [])) (D.view d.old).bytes) }
     ensures only { OnOk result (IsSettled (D.view d.new)) }
     ensures moments { LeadsTo HasNoLetters HasNoLetters (D.view d.old) (D.view d.new) }
     ensures kept { GoesFurther (D.view d.old) (D.view d.new) }
@@ -102,10 +53,10 @@ pub fn close_gates<D: Disk>(d: &mut D) -> Result<(), DiskFault>
 
 /// Writes the first slot: its body, and once that outlasts a crash its gate.
 pub fn write_slot<D: Disk>(d: &mut D, slot: &[u8]) -> Result<(), DiskFault>
+    requires is_disk { IsDisk (D.view d.old) }
     requires open { take 1 slot.now ≡ 1 ∷ [] }
-    requires short { length slot.now ≤ 4096 }
+    requires short { length slot.now ≤ SECOND_SLOT }
     requires within { length slot.now ≤ (D.view d.old).size }
-    requires counts { (D.view d.old).calls < 2 ^ 64 }
     ensures ok { OnOk result ((D.view d.new).bytes ≡ option_map (λ bytes. replaced (replaced bytes 1 (drop 1 slot.now)) 0 (take 1 slot.now)) (D.view d.old).bytes) }
     ensures only { OnOk result (IsSettled (D.view d.new)) }
     ensures moments { LeadsTo IsShut (λ image. IsShut image ⊎ (option_map (λ bytes. replaced (replaced bytes 1 (drop 1 slot.now)) 0 (take 1 slot.now)) (D.view d.old).bytes ≡ Some image)) (D.view d.old) (D.view d.new) }
@@ -122,9 +73,8 @@ pub fn write_slot<D: Disk>(d: &mut D, slot: &[u8]) -> Result<(), DiskFault>
 /// Writes all blocks to their places.
 fn write_blocks<D: Disk>(d: &mut D, blocks: &Blocks) -> Result<(), DiskFault>
     requires is_disk { IsDisk (D.view d.old) }
-    requires size { (D.view d.old).size ≡ 8192 + 512 * length blocks.now }
-    requires few { length blocks.now ≤ 4096 }
-    requires counts { (D.view d.old).calls < 2 ^ 64 }
+    requires size { (D.view d.old).size ≡ HEAD_LEN + BLOCK_LEN * length blocks.now }
+    requires few { length blocks.now ≤ MAX_BLOCKS }
     ensures ok { OnOk result (IfSome (D.view d.new).bytes (λ image. HoldsBlocks image blocks.now (length blocks.now))) }
     ensures moments { LeadsTo HasNoLetters HasNoLetters (D.view d.old) (D.view d.new) }
     ensures kept { GoesFurther (D.view d.old) (D.view d.new) }
@@ -139,11 +89,10 @@ fn write_blocks<D: Disk>(d: &mut D, blocks: &Blocks) -> Result<(), DiskFault>
 /// Writes the image of a home, the gate of its slot last.
 fn write_image<D: Disk>(d: &mut D, slot: &[u8], blocks: &Blocks) -> Result<(), DiskFault>
     requires is_disk { IsDisk (D.view d.old) }
-    requires size { (D.view d.old).size ≡ 8192 + 512 * length blocks.now }
-    requires few { length blocks.now ≤ 4096 }
+    requires size { (D.view d.old).size ≡ HEAD_LEN + BLOCK_LEN * length blocks.now }
+    requires few { length blocks.now ≤ MAX_BLOCKS }
     requires open { take 1 slot.now ≡ 1 ∷ [] }
-    requires short { length slot.now ≤ 4096 }
-    requires counts { (D.view d.old).calls < 2 ^ 64 }
+    requires short { length slot.now ≤ SECOND_SLOT }
     ensures ok { OnOk result (IfSome (D.view d.new).bytes (λ image. IsLaidOut slot.now blocks.now (D.view d.old).size image)) }
     ensures only { OnOk result (IsSettled (D.view d.new)) }
     ensures moments { LeadsTo HasNoLetters (λ image. IsNoImage image ⊎ IsLaidOut slot.now blocks.now (D.view d.old).size image) (D.view d.old) (D.view d.new) }
@@ -156,36 +105,26 @@ fn write_image<D: Disk>(d: &mut D, slot: &[u8], blocks: &Blocks) -> Result<(), D
 }
 
 /// Makes a home on a device of its length.
-pub fn make_on<D: Disk>(
-    alloc: Global,
-    d: &mut D,
-    sizes: &Sizes,
-    blocks: &Blocks,
-) -> Result<Told, HomeFault>
+pub fn make_on<D: Disk>(d: &mut D, sizes: &Sizes, blocks: &Blocks) -> Result<Told, HomeFault>
     requires size { (D.view d.old).size ≡ home_length sizes.now }
     requires many { length blocks.now ≡ sizes.now.blocks }
     ensures made { OnOk result (IsMade (first_super sizes.now) blocks.now (D.view d.new)) }
     ensures told { IfOk result (λ told. super_told told ≡ first_super sizes.now) }
     ensures same_sizes { IfOk result (λ told. told.sizes ≡ sizes.now) }
-    ensures sound { IfOk result (λ told. All (IsTail told.sizes) (take told.sizes.cores told.tails)) }
+    ensures tails { IfOk result (λ told. All (IsTail told.sizes) (take told.sizes.cores told.tails)) }
+    ensures epoch { IfOk result (λ told. told.epoch < 2 ^ 62) }
     ensures continues { Continues (D.view d.old) (D.view d.new) }
     ensures moments { MakesOnly (first_super sizes.now) blocks.now (D.view d.old) (D.view d.new) }
     ensures cause { IfErr result (IsFailure (D.view d.old) (D.view d.new)) }
 {
     let len = d.len();
     prove!(len == home_len(sizes));
-    // The count of calls fits its type, so it doesn't fall.
-    let calls = d.calls();
-    prove!(calls <= u64::MAX);
-    let Ok(slot) = first_slot(alloc, sizes) else {
-        return Err(HomeFault::NoMemory);
-    };
-    if write_image(d, &slot, blocks).is_err() {
-        return Err(HomeFault::DiskFault);
-    }
-    Ok(Told {
+    let told = Told {
+        slot: 0,
         epoch: FIRST_EPOCH,
         sizes: *sizes,
         tails: Tails::zero(),
-    })
+    };
+    write_image(d, spell(&told).as_slice(), blocks)?;
+    Ok(told)
 }

@@ -1,17 +1,14 @@
 //! The slots of a home: what their bytes tell, and which of them counts.
 
-ghost use Rattle.std.specs.Prelude.{◌≡◌, ◌+◌, ◌*◌, ◌^◌, ◌<◌, ◌≤◌, ◌==◌, ◌&&◌, nat_lt, All, length, None, Some, drop, take, map, nat_eq, IfOk, IfErr, IfSome, OnOk, option_map};
+ghost use Rattle.std.specs.Prelude.{◌≡◌, ℕ, ◌+◌, ◌*◌, ◌^◌, ◌<◌, ◌≤◌, All, length, None, Some, take, map, IfOk, IfErr, IfSome, OnOk, option_map};
+ghost use Rattle.std.specs.List.{range_with_len};
+ghost use Rattle.zj_block.specs.Sizes.{IsInLimits, numbers_of, out_of_range};
 ghost use Rattle.zj_home.specs.Told.{super_told};
-ghost use Rattle.std.specs.List.{range_with_len, starts_with};
-ghost use Rattle.zj_block.specs.Sizes.{IsInLimits, numbers_of, first_data};
-ghost use Rattle.zj_home.specs.Super.{u32_in, u64_in, counting, is_open, letters, numbers_in, numbers_fault, tail_in, tail_fault, tails_fault, slot_fault, head_fault, super_in, home_length, is_within, IsRefusal, IsTail};
+ghost use Rattle.zj_home.specs.Super.{IsOfBytes, IsTail, counting, field_fault, head_fault, home_length, numbers_fault, numbers_in, slot_fault, super_in, tail_fault, tail_in, tails_fault, u32_in, u64_in};
 
 use crate::fault::HomeFault;
 use byteorder::{ByteOrder, LittleEndian};
-use zj_block::{
-    BLOCKS_PER_MAP_BLOCK, MAX_AREA, MAX_BLOCKS, MAX_CORES, MAX_NODES, MAX_RECORD_BLOCKS,
-    MIN_BLOCKS, MIN_CORES, MIN_NODES, NODES_PER_BLOCK, Sizes, Tail, Tails, VERSION,
-};
+use zj_block::{BLOCK_LEN, Sizes, SizesField, Tail, Tails, VERSION};
 
 /// The bytes that both slots stand in. The blocks stand behind them.
 pub const HEAD_LEN: usize = 8192;
@@ -25,11 +22,11 @@ pub const OPEN: u8 = 1;
 /// The letters behind the gate.
 pub const LETTERS: &[u8; 7] = b"ZJ-HOME";
 
-/// From this number on a tail is none.
+/// From this number on an epoch is none, nor is the number of a tail.
 const NUMBERS_END: u64 = 1 << 62;
 
 /// The number of 32 bits whose lowest byte stands there.
-fn u32_at(bytes: &[u8], at: usize) -> u32
+fn u32_in(bytes: &[u8], at: usize) -> u32
     requires { at + 4 ≤ length bytes.now }
     ensures { result ≡ u32_in bytes.now at }
 {
@@ -37,7 +34,7 @@ fn u32_at(bytes: &[u8], at: usize) -> u32
 }
 
 /// The number of 64 bits whose lowest byte stands there.
-fn u64_at(bytes: &[u8], at: usize) -> u64
+fn u64_in(bytes: &[u8], at: usize) -> u64
     requires { at + 8 ≤ length bytes.now }
     ensures { result ≡ u64_in bytes.now at }
 {
@@ -47,14 +44,14 @@ fn u64_at(bytes: &[u8], at: usize) -> u64
 /// Where the slot that counts stands, if one is open.
 #[tactic(auto, unfolding(crate::specs::Super::counting))]
 fn counting_slot(head: &[u8]) -> Option<usize>
-    requires { length head.now ≡ 8192 }
+    requires { length head.now ≡ HEAD_LEN }
     ensures slot { result ≡ counting head.now }
-    ensures inside { IfSome result (λ slot. slot ≤ 4096) }
+    ensures inside { IfSome result (λ slot. slot ≤ SECOND_SLOT) }
 {
     let first = head[0] == OPEN;
     let second = head[SECOND_SLOT] == OPEN;
     if first && second {
-        let later = u64_at(head, 8) < u64_at(head, SECOND_SLOT + 8);
+        let later = u64_in(head, 8) < u64_in(head, SECOND_SLOT + 8);
         return Some(if later { SECOND_SLOT } else { 0 });
     }
     if first {
@@ -63,54 +60,27 @@ fn counting_slot(head: &[u8]) -> Option<usize>
     if second { Some(SECOND_SLOT) } else { None }
 }
 
-/// The first number of a slot that is outside its limits.
-fn bad_number(
-    slot: u64,
-    version: u32,
-    blocks: u32,
-    nodes: u32,
-    cores: u32,
-    area: u64,
-) -> Option<HomeFault>
-    requires { slot ≤ 4096 }
-    ensures fault { result ≡ numbers_fault slot (numbers_of version blocks nodes cores area) }
-    ensures refusal { IfSome result IsRefusal }
+/// The fault of a number that is out of range, in a slot that tells this version.
+fn field_fault(slot: u64, version: u32, field: SizesField) -> HomeFault
+    requires { slot ≤ SECOND_SLOT }
+    ensures fault { (blocks nodes cores area : ℕ) → result ≡ field_fault slot (numbers_of version blocks nodes cores area) field }
+    ensures of_bytes { IsOfBytes result }
 {
-    if version != VERSION {
-        return Some(HomeFault::Version { found: version });
+    match field {
+        SizesField::Version => HomeFault::Version { found: version },
+        SizesField::Cores => HomeFault::NotAnImage { at: slot + 20 },
+        SizesField::Blocks => HomeFault::NotAnImage { at: slot + 24 },
+        SizesField::Nodes => HomeFault::NotAnImage { at: slot + 28 },
+        SizesField::Area => HomeFault::NotAnImage { at: slot + 32 },
     }
-    if !(MIN_CORES..=MAX_CORES).contains(&cores) {
-        return Some(HomeFault::NotAnImage { at: slot + 20 });
-    }
-    if !has_blocks(blocks, nodes) {
-        return Some(HomeFault::NotAnImage { at: slot + 24 });
-    }
-    if !(MIN_NODES..=MAX_NODES).contains(&nodes) || nodes % NODES_PER_BLOCK != 0 {
-        return Some(HomeFault::NotAnImage { at: slot + 28 });
-    }
-    let longest = 24 + 8 * u64::from(cores) + 528 * u64::from(MAX_RECORD_BLOCKS);
-    if !(2 * longest..=MAX_AREA).contains(&area) {
-        return Some(HomeFault::NotAnImage { at: slot + 32 });
-    }
-    None
-}
-
-/// Whether the number of blocks is within its limits, and one is left for data.
-fn has_blocks(blocks: u32, nodes: u32) -> bool
-    ensures { result ≡ (is_within MIN_BLOCKS MAX_BLOCKS blocks && nat_lt (first_data (numbers_of VERSION blocks nodes 0 0)) blocks) }
-{
-    if !(MIN_BLOCKS..=MAX_BLOCKS).contains(&blocks) {
-        return false;
-    }
-    blocks.div_ceil(BLOCKS_PER_MAP_BLOCK) + nodes / NODES_PER_BLOCK < blocks
 }
 
 /// The first fault of a core's tail.
-fn bad_tail(slot: u64, sizes: &Sizes, core: u32, tail: Tail) -> Option<HomeFault>
+fn tail_fault(slot: u64, sizes: &Sizes, core: u32, tail: Tail) -> Option<HomeFault>
     requires within { core < sizes.now.cores }
-    requires slot { slot ≤ 4096 }
+    requires slot { slot ≤ SECOND_SLOT }
     ensures fault { result ≡ tail_fault slot sizes.now core tail }
-    ensures refusal { IfSome result IsRefusal }
+    ensures of_bytes { IfSome result IsOfBytes }
 {
     let field = slot + 40 + 16 * u64::from(core);
     if tail.place > sizes.area() - sizes.max_record() {
@@ -122,9 +92,10 @@ fn bad_tail(slot: u64, sizes: &Sizes, core: u32, tail: Tail) -> Option<HomeFault
     None
 }
 
-/// What a slot tells. Of the 64 tails those of the image's cores count.
+/// What a slot tells, and its place. Of the 64 tails those of the image's cores count.
 #[derive(Clone, Copy, Debug)]
 pub struct Told {
+    pub slot: usize,
     pub epoch: u64,
     pub sizes: Sizes,
     pub tails: Tails,
@@ -132,41 +103,41 @@ pub struct Told {
 
 /// Reads the sizes that a slot tells.
 fn read_sizes(head: &[u8], slot: usize) -> Result<Sizes, HomeFault>
-    requires whole { length head.now ≡ 8192 }
-    requires slot { slot ≤ 4096 }
+    requires whole { length head.now ≡ HEAD_LEN }
+    requires slot { slot ≤ SECOND_SLOT }
     ensures ok { IfOk result (λ sizes. (numbers_fault slot (numbers_in head.now slot) ≡ None) × (sizes ≡ numbers_in head.now slot)) }
     ensures err { IfErr result (λ fault. numbers_fault slot (numbers_in head.now slot) ≡ Some fault) }
     ensures limits { IfOk result IsInLimits }
-    ensures refusal { IfErr result IsRefusal }
+    ensures of_bytes { IfErr result IsOfBytes }
 {
-    let version = u32_at(head, slot + 16);
-    let cores = u32_at(head, slot + 20);
-    let blocks = u32_at(head, slot + 24);
-    let nodes = u32_at(head, slot + 28);
-    let area = u64_at(head, slot + 32);
-    if let Some(fault) = bad_number(slot as u64, version, blocks, nodes, cores, area) {
-        return Err(fault);
+    let version = u32_in(head, slot + 16);
+    let cores = u32_in(head, slot + 20);
+    let blocks = u32_in(head, slot + 24);
+    let nodes = u32_in(head, slot + 28);
+    let area = u64_in(head, slot + 32);
+    if let Some(field) = Sizes::out_of_range(version, blocks, nodes, cores, area) {
+        return Err(field_fault(slot as u64, version, field));
     }
     Ok(Sizes::new(version, blocks, nodes, cores, area).unwrap())
 }
 
 /// Reads the tails that a slot tells.
 fn read_tails(head: &[u8], slot: usize, sizes: &Sizes) -> Result<Tails, HomeFault>
-    requires whole { length head.now ≡ 8192 }
-    requires slot { slot ≤ 4096 }
+    requires whole { length head.now ≡ HEAD_LEN }
+    requires slot { slot ≤ SECOND_SLOT }
     ensures ok { IfOk result (λ tails. (tails_fault head.now slot sizes.now sizes.now.cores ≡ None) × (take sizes.now.cores tails ≡ map (λ core. tail_in head.now slot core) (range_with_len 0 sizes.now.cores))) }
     ensures err { IfErr result (λ fault. tails_fault head.now slot sizes.now sizes.now.cores ≡ Some fault) }
     ensures sound { IfOk result (λ tails. All (IsTail sizes.now) (take sizes.now.cores tails)) }
-    ensures refusal { IfErr result IsRefusal }
+    ensures of_bytes { IfErr result IsOfBytes }
 {
     let mut tails = Tails::zero();
     for core in 0..sizes.cores() {
         let at = 16 * core as usize;
         let tail = Tail {
-            place: u64_at(head, slot + 40 + at),
-            number: u64_at(head, slot + 48 + at),
+            place: u64_in(head, slot + 40 + at),
+            number: u64_in(head, slot + 48 + at),
         };
-        if let Some(fault) = bad_tail(slot as u64, sizes, core, tail) {
+        if let Some(fault) = tail_fault(slot as u64, sizes, core, tail) {
             return Err(fault);
         }
         tails.put(core, tail).unwrap();
@@ -177,18 +148,29 @@ fn read_tails(head: &[u8], slot: usize, sizes: &Sizes) -> Result<Tails, HomeFaul
 /// Reads what a slot tells, on a device of some length in bytes.
 #[tactic(auto, unfolding(crate::specs::Super::slot_fault))]
 fn read_slot(head: &[u8], len: u64, slot: usize) -> Result<Told, HomeFault>
-    requires whole { length head.now ≡ 8192 }
-    requires slot { slot ≤ 4096 }
+    requires whole { length head.now ≡ HEAD_LEN }
+    requires slot { slot ≤ SECOND_SLOT }
     ensures none { OnOk result (slot_fault head.now len slot ≡ None) }
     ensures told { IfOk result (λ told. super_told told ≡ super_in head.now slot) }
     ensures size { IfOk result (λ told. len ≡ home_length told.sizes) }
-    ensures sound { IfOk result (λ told. All (IsTail told.sizes) (take told.sizes.cores told.tails)) }
+    ensures tails { IfOk result (λ told. All (IsTail told.sizes) (take told.sizes.cores told.tails)) }
+    ensures epoch { IfOk result (λ told. told.epoch < 2 ^ 62) }
     ensures err { IfErr result (λ fault. slot_fault head.now len slot ≡ Some fault) }
-    ensures refusal { IfErr result IsRefusal }
+    ensures of_bytes { IfErr result IsOfBytes }
 {
     if !head[slot + 1..].starts_with(LETTERS) {
         return Err(HomeFault::NotAnImage {
             at: slot as u64 + 1,
+        });
+    }
+    let version = u32_in(head, slot + 16);
+    if version != VERSION {
+        return Err(HomeFault::Version { found: version });
+    }
+    let epoch = u64_in(head, slot + 8);
+    if epoch >= NUMBERS_END {
+        return Err(HomeFault::NotAnImage {
+            at: slot as u64 + 8,
         });
     }
     let sizes = read_sizes(head, slot)?;
@@ -201,7 +183,8 @@ fn read_slot(head: &[u8], len: u64, slot: usize) -> Result<Told, HomeFault>
         });
     }
     Ok(Told {
-        epoch: u64_at(head, slot + 8),
+        slot,
+        epoch,
         sizes,
         tails,
     })
@@ -212,19 +195,20 @@ pub fn home_len(sizes: &Sizes) -> u64
     ensures value { result ≡ home_length sizes.now }
     ensures limits { IsInLimits sizes.now }
 {
-    HEAD_LEN as u64 + 512 * u64::from(sizes.blocks())
+    HEAD_LEN as u64 + BLOCK_LEN as u64 * u64::from(sizes.blocks())
 }
 
 /// Reads what the slot that counts tells, on a device of some length in bytes.
 #[tactic(auto, unfolding(crate::specs::Super::head_fault))]
 pub fn read_super(head: &[u8], len: u64) -> Result<Told, HomeFault>
-    requires { length head.now ≡ 8192 }
+    requires { length head.now ≡ HEAD_LEN }
     ensures none { OnOk result (head_fault head.now len (counting head.now) ≡ None) }
     ensures told { IfOk result (λ told. option_map (λ slot. super_in head.now slot) (counting head.now) ≡ Some (super_told told)) }
     ensures size { IfOk result (λ told. len ≡ home_length told.sizes) }
-    ensures sound { IfOk result (λ told. All (IsTail told.sizes) (take told.sizes.cores told.tails)) }
+    ensures tails { IfOk result (λ told. All (IsTail told.sizes) (take told.sizes.cores told.tails)) }
+    ensures epoch { IfOk result (λ told. told.epoch < 2 ^ 62) }
     ensures err { IfErr result (λ fault. head_fault head.now len (counting head.now) ≡ Some fault) }
-    ensures refusal { IfErr result IsRefusal }
+    ensures of_bytes { IfErr result IsOfBytes }
 {
     match counting_slot(head) {
         Some(slot) => read_slot(head, len, slot),

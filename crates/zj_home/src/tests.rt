@@ -114,6 +114,7 @@ fn bytes_that_are_no_home_are_refused(rt: HostRuntime) -> Result<(), Fail> {
         (0, 7, HomeFault::NotAnImage { at: 0 }),
         (7, b'X', HomeFault::NotAnImage { at: 1 }),
         (16, 2, HomeFault::Version { found: 2 }),
+        (15, 0x40, HomeFault::NotAnImage { at: 8 }),
         (20, 0, HomeFault::NotAnImage { at: 20 }),
         (24, 15, HomeFault::NotAnImage { at: 24 }),
         (28, 9, HomeFault::NotAnImage { at: 28 }),
@@ -142,6 +143,28 @@ fn bytes_that_are_no_home_are_refused(rt: HostRuntime) -> Result<(), Fail> {
     assert_eq!(rt; opened(rt.alloc(), front(&rt, &bytes, 40959))?, Err(cut));
     let short = HomeFault::NotAnImage { at: 0 };
     assert_eq!(rt; opened(rt.alloc(), front(&rt, &bytes, 8191))?, Err(short));
+    Ok(())
+}
+
+#[test]
+fn an_epoch_is_below_its_end(rt: HostRuntime) -> Result<(), Fail> {
+    let mut bytes = image(&rt, rt.alloc())?;
+    assert_eq!(rt; bytes.len(), 40960);
+    bytes[8..15].fill(0xff);
+    for (last, opens) in [
+        (0x3f, Ok((1 << 62) - 1)),
+        (0x40, Err(HomeFault::NotAnImage { at: 8 })),
+    ] {
+        bytes[15] = last;
+        assert_eq!(rt; opened(rt.alloc(), &bytes)?, opens);
+    }
+    bytes[16] = 2;
+    let version = HomeFault::Version { found: 2 };
+    assert_eq!(rt; opened(rt.alloc(), &bytes)?, Err(version));
+    bytes[16] = 1;
+    bytes[20] = 0;
+    let epoch = HomeFault::NotAnImage { at: 8 };
+    assert_eq!(rt; opened(rt.alloc(), &bytes)?, Err(epoch));
     Ok(())
 }
 

@@ -4,7 +4,8 @@ use Rattle.std.specs.Option.{option_copied}
 use Rattle.zj_home.proofs.BlockLemmas.{block_more, found_at, some_at}
 use Rattle.zj_home.proofs.ImageLemmas.{if_some_all}
 use Rattle.zj_home.proofs.MadeMoments.{letters_more}
-use Rattle.zj_home.proofs.Moments.{further_none, further_then, leads_none}
+use Rattle.zj_dev.proofs.DiskLaws.{leads_refl}
+use Rattle.zj_home.proofs.Further.{further_refl, further_trans}
 use Rattle.zj_home.proofs.make.write_blocks.Goals as goal
 
 pub loop-b-preserved : goal.loop-b-preserved
@@ -16,7 +17,7 @@ loop-b-preserved g c =
     let now = c.in_ok-write_block.ensures in
     let found : Some c.unwrap.result.now ≡ slice_get c.args.blocks.now c.loop-b.b = ap option_copied (sym c.unwrap.ensures) ∙ c.at.ensures.block in
     record {
-      kept = further_then first old new was.kept now.kept;
+      kept = further_trans first old new was.kept now.kept;
       holds = block_more old new.bytes c.args.blocks.now c.loop-b.b c.unwrap.result.now was.kept.is_disk
           (omega (arith, was.kept.continues.size, c.requires.size)) now.many (found_at c.args.blocks.now c.loop-b.b c.unwrap.result.now (sym found)) now.ok was.holds;
       letters = letters_more first old new c.loop-b.b was.kept now.kept was.letters now.torn;
@@ -26,9 +27,9 @@ pub loop-b-init : goal.loop-b-init
 loop-b-init g c =
     let first = g.D.Disk.view c.args.d.now in
     record {
-      kept = further_none first c.requires.counts c.requires.is_disk;
+      kept = further_refl first c.requires.is_disk;
       holds = if_some_all first.bytes (λ image told b below. absurd (omega arith));
-      letters = leads_none first;
+      letters = leads_refl first;
     }
 
 pub unwrap-requires : goal.unwrap-requires

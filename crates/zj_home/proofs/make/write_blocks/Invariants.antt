@@ -1,5 +1,6 @@
 use Rattle.std.specs.Prelude.{IfSome}
-use Rattle.zj_home.specs.Made.{GoesFurther, HasNoLetters, HoldsBlocks, LeadsTo}
+use Rattle.zj_dev.specs.Disk.{LeadsTo}
+use Rattle.zj_home.specs.Made.{GoesFurther, HasNoLetters, HoldsBlocks}
 use Rattle.zj_home.proofs.make.write_blocks.Given as goal
 
 -- the blocks so far stand at their places, and no letters came

@@ -1,7 +1,8 @@
 use Rattle.zj_home.specs.Made.{IsLaidOut}
 use Rattle.zj_home.proofs.LaidOut.{laid_out}
 use Rattle.zj_home.proofs.MadeMoments.{none_leads, slot_leads, some_byte}
-use Rattle.zj_home.proofs.Moments.{continues_then, leads_then}
+use Rattle.zj_dev.proofs.DiskLaws.{continues_trans, leads_then}
+use Rattle.zj_home.proofs.Further.{further_trans}
 use Rattle.zj_home.proofs.make.write_image.Goals as goal
 
 pub returns-clause-ok : goal.returns-clause-ok
@@ -33,6 +34,13 @@ returns-clause-moments g c =
     slot_leads first wrote shut end c.args.slot.now c.args.blocks.now first.size
     kept.is_disk kept.continues.size c.requires.size (some_byte c.args.slot.now c.requires.open) c.requires.short
     c.in_ok-write_blocks.ensures.ok c.in_ok-close_gates.ensures.ok c.in_ok-close_gates.ensures.only
-    (continues_then first wrote shut kept.continues c.close_gates.ensures.kept.continues) c.write_slot.ensures.kept.continues
+    (continues_trans first wrote shut kept.continues c.close_gates.ensures.kept.continues) c.write_slot.ensures.kept.continues
     (leads_then first wrote shut kept.continues c.close_gates.ensures.kept.continues (λ image h. h) c.write_blocks.ensures.moments c.close_gates.ensures.moments)
     c.write_slot.ensures.moments
+
+pub returns-clause-kept : goal.returns-clause-kept
+returns-clause-kept g c =
+    let first = g.D.Disk.view c.args.d.now in
+    let wrote = g.D.Disk.view c.write_blocks.new.d in
+    let shut = g.D.Disk.view c.close_gates.new.d in
+    further_trans first shut (g.D.Disk.view c.write_slot.new.d) (further_trans first wrote shut c.write_blocks.ensures.kept c.close_gates.ensures.kept) c.write_slot.ensures.kept

@@ -10,7 +10,7 @@ use Rattle.zj_home.proofs.slot.read_tails.Goals as goal
 pub returns-in-Some-clause-err : goal.returns-in-Some-clause-err
 returns-in-Some-clause-err c =
     let f = λ (core : ℕ). tail_fault c.args.slot c.args.sizes.now core (tail_in c.args.head.now c.args.slot core) in
-    let here : f c.loop-core.core ≡ Some c.in-Some.fault = rw (← c.u64_at.ensures, ← c.u64_at-in-loop-core.ensures) (sym c.in-Some.ensures.fault) in
+    let here : f c.loop-core.core ≡ Some c.in-Some.fault = rw (← c.u64_in.ensures, ← c.u64_in-in-loop-core.ensures) (sym c.in-Some.ensures.fault) in
     some_first f c.args.sizes.now.cores c.loop-core.core c.in-Some.fault (omega arith) c.loop-core.invariant.none here
 
 pub loop-core-preserved : goal.loop-core-preserved
@@ -19,8 +19,8 @@ loop-core-preserved c =
     let slot = c.args.slot in
     let n = c.loop-core.core in
     let f = λ (core : ℕ). tail_fault slot c.args.sizes.now core (tail_in head slot core) in
-    let here : f n ≡ None = rw (← c.u64_at.ensures, ← c.u64_at-in-loop-core.ensures) (sym c.in_default.ensures.fault) in
-    let is : c.put.new.self ≡ set c.loop-core.tails n (tail_in head slot n) = rw (← c.u64_at.ensures, ← c.u64_at-in-loop-core.ensures) (rw c.unwrap.ensures at c.put.ensures.put) in
+    let here : f n ≡ None = rw (← c.u64_in.ensures, ← c.u64_in-in-loop-core.ensures) (sym c.in_default.ensures.fault) in
+    let is : c.put.new.self ≡ set c.loop-core.tails n (tail_in head slot n) = rw (← c.u64_in.ensures, ← c.u64_in-in-loop-core.ensures) (rw c.unwrap.ensures at c.put.ensures.put) in
     let below : n < length c.loop-core.tails = omega (arith, c.loop-core.invariant.many, c.cores-core-end.ensures.limits.most_cores) in
     record {
       none = none_more f n c.loop-core.invariant.none here;
