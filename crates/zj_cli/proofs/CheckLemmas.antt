@@ -5,7 +5,7 @@ use Rattle.std.proofs.lemmas.List.{take_at}
 use Rattle.std.proofs.lemmas.Option.{slice_get_within}
 use Rattle.zj_dev.specs.Fault.{Rose}
 use Rattle.zj_dev.specs.Disk.{DiskView, OnlyReads}
-use Rattle.zj_dev.specs.Shelf.{Names, OthersStay, Slot, Untold, Absent, Out, Stands}
+use Rattle.zj_dev.specs.Shelf.{ShelfView, OthersStay, Slot, Untold, Absent, Out, Stands}
 use Rattle.zj_dev.specs.declared.device.Device.{Device}
 use Rattle.zj_dev.specs.declared.device.Device.TheVariants as devices
 use Rattle.zj_block.specs.declared.numbers.Tail.{Tail}
@@ -19,14 +19,15 @@ use Rattle.zj_cli.specs.declared.status.Fault.TheVariants as faults
 use Rattle.zj_cli.specs.declared.status.ImageFault.TheVariants as images
 use Rattle.zj_cli.specs.Check.{AllHold, Checks, HasHome, HasJournals, IsDeviceCause, IsImageCause, IsJournalCause, IsMissing, IsDevicesCause, IsOpened, JournalHolds, OfDevice, OfJournal, OfLength, journal_text}
 use Rattle.zj_cli.specs.Opening.{AllOpened, AreOpened, IsJournalsCause, IsOfSet}
-use Rattle.zj_cli.specs.Scanning.{AreCounted, AreaHolds, AreRead, HoldsSome, IsAreaCause, IsReadCause, Prints}
+use Rattle.zj_cli.specs.Scanning.{AreCounted, AreaHolds, AreRead, HoldsSome, IsAreaCause, IsCountingCause, Prints}
 use Rattle.zj_cli.specs.Set.{AllBack, IsBack, IsClosed, IsLent, IsNoJournal, IsOut, IsPutBack, home_name, journal_name}
 use Rattle.zj_cli.proofs.OpenLemmas.{match_option}
-use Rattle.zj_cli.proofs.SetLemmas.{back_same, home_differs, reads_trans, rose_put, rose_since, rose_until}
+use Rattle.zj_dev.proofs.DiskLaws.{reads_trans, rose_since, rose_until}
+use Rattle.zj_cli.proofs.SetLemmas.{back_same, home_differs, rose_put}
 
 -- ---- opening
 
-module _ (before mid : Names) (stay : OthersStay home_name before mid) where
+module _ (before mid : ShelfView) (stay : OthersStay home_name before mid) where
   -- home was taken out first, and that changed no journal's name
   same_journal : (core : ℕ) → mid (journal_name core) ≡ before (journal_name core)
   same_journal core = stay (journal_name core) (home_differs core)
@@ -46,7 +47,7 @@ module _ (before mid : Names) (stay : OthersStay home_name before mid) where
   pub journals_before : (super : Super) (count : ℕ) → HasJournals mid super count → HasJournals before super count
   journals_before super count has core below = subst (λ (s : Slot). OfLength s (λ len. len ≡ super.sizes.area)) (same_journal core) (has core below)
 
-  pub all_out : {D : Type 0} (view : D → DiskView) (now : Names) (home : DiskView) (super : Super) (count : ℕ) (areas : List (AreaView D)) → IsLent (before home_name) (mid home_name) home → AreOpened view mid now super count areas → IsOut view before now home areas
+  pub all_out : {D : Type 0} (view : D → DiskView) (now : ShelfView) (home : DiskView) (super : Super) (count : ℕ) (areas : List (AreaView D)) → IsLent (before home_name) (mid home_name) home → AreOpened view mid now super count areas → IsOut view before now home areas
   all_out view now home super count areas lent opened = record {
     home_lent = subst (λ (s : Slot). IsLent (before home_name) s home) (sym (opened.others home_name not_home)) lent;
     journals = λ core fits. match_option (slice_get areas core)
@@ -56,7 +57,7 @@ module _ (before mid : Names) (stay : OthersStay home_name before mid) where
   }
 
   -- why the journals were not opened is why the set wasn't
-  pub set_cause : (now : Names) (f0 f1 f2 f3 : ℕ) (super : Super) (fault : Fault) → HasHome before super → f0 ≤ f1 → f2 ≤ f3 → IsJournalsCause mid f1 f2 super fault → IsDevicesCause before now f0 f3 fault
+  pub set_cause : (now : ShelfView) (f0 f1 f2 f3 : ℕ) (super : Super) (fault : Fault) → HasHome before super → f0 ≤ f1 → f2 ≤ f3 → IsJournalsCause mid f1 f2 super fault → IsDevicesCause before now f0 f3 fault
   set_cause now f0 f1 f2 f3 super fault home le le' cause = by_fault fault cause.3
     where
       missing : (device : Device) → (device ≡ devices.Journal cause.0) × IsMissing (mid (journal_name cause.0)) → IsImageCause before (images.Absent device)
@@ -89,7 +90,7 @@ module _ (before mid : Names) (stay : OthersStay home_name before mid) where
       by_fault faults.Output is = is
 
 -- each was just opened
-pub all_opened : {D : Type 0} (view : D → DiskView) (before now : Names) (super : Super) (areas : List (AreaView D)) → length areas ≤ 8 → AreOpened view before now super super.sizes.cores areas → AllOpened super areas
+pub all_opened : {D : Type 0} (view : D → DiskView) (before now : ShelfView) (super : Super) (areas : List (AreaView D)) → length areas ≤ 8 → AreOpened view before now super super.sizes.cores areas → AllOpened super areas
 all_opened view before now super areas few opened = record {
   many = opened.many;
   few = few;
@@ -137,7 +138,7 @@ lent_reads Absent now d d' lent reads = lent
 lent_reads Out now d d' lent reads = lent
 
 -- reading leaves all that is out
-pub out_read : {D : Type 0} (view : D → DiskView) (before now : Names) (home : DiskView) (old new : List (AreaView D)) → IsOut view before now home old → AreRead view old new → IsOut view before now home new
+pub out_read : {D : Type 0} (view : D → DiskView) (before now : ShelfView) (home : DiskView) (old new : List (AreaView D)) → IsOut view before now home old → AreRead view old new → IsOut view before now home new
 out_read view before now home old new out read = record {
   home_lent = out.home_lent;
   journals = λ core fits. one (slice_get old core) (slice_get new core) core (out.journals core fits) (read core);
@@ -152,7 +153,7 @@ out_read view before now home old new out read = record {
     one (Some a) None core lent reads = absurd reads
     one (Some a) (Some b) core lent reads = lent_reads (before (journal_name core)) (now (journal_name core)) (view a.device) (view b.device) lent reads
 
-module _ {D : Type 0} (view : D → DiskView) (before mid now : Names) (home home' : DiskView) (old new : List (AreaView D)) (super : Super) (out : IsOut view before mid home old) (closed : IsClosed view before now home' new) (opened : AllOpened super old)
+module _ {D : Type 0} (view : D → DiskView) (before mid now : ShelfView) (home home' : DiskView) (old new : List (AreaView D)) (super : Super) (out : IsOut view before mid home old) (closed : IsClosed view before now home' new) (opened : AllOpened super old)
     (has_home : HasHome before super) (has_journals : HasJournals before super super.sizes.cores) where
   fits_at : (core : ℕ) (a : AreaView D) → slice_get old core ≡ Some a → (core < 8) × (core < super.sizes.cores)
   fits_at core a here = let below = slice_get_within old core a here in (omega (arith, below, opened.few), omega (arith, below, opened.many))
@@ -196,7 +197,7 @@ module _ {D : Type 0} (view : D → DiskView) (before mid now : Names) (home hom
       one (Some a) e h = of_area (λ sizes core image tail. (end : Tail) × Holds sizes core image tail printed.records end) 0 a e h
 
   -- and why nothing was is why the set is refused
-  pub read_cause : (f f' : ℕ) (fault : Fault) → IsReadCause view super old new fault → IsDevicesCause before now f f' fault
+  pub read_cause : (f f' : ℕ) (fault : Fault) → IsCountingCause view super old new fault → IsDevicesCause before now f f' fault
   read_cause f f' fault (inr (inr memory)) = subst (λ (x : Fault). IsDevicesCause before now f f' x) (sym memory) tt
   read_cause f f' fault (inr (inl many)) =
       subst (λ (x : Fault). IsDevicesCause before now f f' x) (sym many.0)
@@ -247,7 +248,7 @@ module _ {D : Type 0} (view : D → DiskView) (before mid now : Names) (home hom
       (devices.Journal is.0, is.2, (super, has_home, below, inl (λ core before. has_journals core (omega (arith, before, below)), rose_since f f1 f2 le rose)), rose_since f f1 f2 le rose)
 
 -- what was out, was read and is closed
-pub closes : {D : Type 0} (view : D → DiskView) (before mid now : Names) (home : DiskView) (items old new : List (AreaView D)) (len : ℕ) → IsOut view before mid home items → old ≡ items → AreRead view old new → length new ≡ len
+pub closes : {D : Type 0} (view : D → DiskView) (before mid now : ShelfView) (home : DiskView) (items old new : List (AreaView D)) (len : ℕ) → IsOut view before mid home items → old ≡ items → AreRead view old new → length new ≡ len
     → (IsOut view before mid home (take len (new ++ drop (length new) items)) → IsClosed view before now home (take len (new ++ drop (length new) items))) → IsOut view before mid home old × IsClosed view before now home new
 closes view before mid now home items old new len out same read many close =
     let out_old : IsOut view before mid home old = subst (λ (l : List (AreaView _)). IsOut view before mid home l) (sym same) out in

@@ -8,17 +8,17 @@ use Rattle.std.proofs.lemmas.List.{drop_more}
 use Rattle.std.proofs.lemmas.Option.{slice_get-get_or, slice_get_cases}
 use Rattle.zj_dev.specs.Disk.{DiskView}
 use Rattle.zj_dev.specs.Fault.{Rose}
-use Rattle.zj_dev.specs.Shelf.{Names, Slot, Untold, Absent, Out, Stands, Closes, OthersStay}
+use Rattle.zj_dev.specs.Shelf.{ShelfView, Slot, Untold, Absent, Out, Stands, Closes, OthersStay}
 use Rattle.zj_area.specs.Journal.{AreaView}
 use Rattle.zj_cli.specs.declared.status.Fault.{Fault}
 use Rattle.zj_cli.specs.Set.{AllBack, IsBack, IsClosed, IsLent, IsOut, IsPutBack, home_name, journal_name}
 
 -- The journals of these areas that stand before that core are closed.
-abbrev pub ClosedBelow : {D : Type 0} → (D → DiskView) → List (AreaView D) → ℕ → Names → Names → Type 0
+abbrev pub ClosedBelow : {D : Type 0} → (D → DiskView) → List (AreaView D) → ℕ → ShelfView → ShelfView → Type 0
 ClosedBelow view areas count old now = (core : ℕ) → core < count → IfSome (slice_get areas core) (λ area. Closes (view area.device) (old (journal_name core)) (now (journal_name core)))
 
 -- All other names have what they had.
-abbrev pub KeptBut : ℕ → Names → Names → Type 0
+abbrev pub KeptBut : ℕ → ShelfView → ShelfView → Type 0
 KeptBut count old now = (name : List ℕ) → ((core : ℕ) → core < count → name ≢ journal_name core) → now name ≡ old name
 
 -- the names tell the devices apart
@@ -67,7 +67,7 @@ still_some view None before now back = back
 still_some view (Some area) before now back = still before now (view area.device) back
 
 -- one more journal is closed
-pub closed_more : {D : Type 0} (view : D → DiskView) (areas : List (AreaView D)) (count : ℕ) (area : AreaView D) (old now new : Names) → count < 8
+pub closed_more : {D : Type 0} (view : D → DiskView) (areas : List (AreaView D)) (count : ℕ) (area : AreaView D) (old now new : ShelfView) → count < 8
     → slice_get areas count ≡ Some area → ClosedBelow view areas count old now → KeptBut count old now
     → Closes (view area.device) (now (journal_name count)) (new (journal_name count)) → OthersStay (journal_name count) now new
     → ClosedBelow view areas (count + 1) old new
@@ -81,12 +81,12 @@ closed_more view areas count area old now new few at below kept closed stay =
     (kept (journal_name count) (λ core lt. apart count core (omega arith) (omega arith) (omega arith)))
     closed))
 
-pub kept_more : (count : ℕ) (old now new : Names) → KeptBut count old now → OthersStay (journal_name count) now new → KeptBut (count + 1) old new
+pub kept_more : (count : ℕ) (old now new : ShelfView) → KeptBut count old now → OthersStay (journal_name count) now new → KeptBut (count + 1) old new
 kept_more count old now new kept stay name other =
     stay name (other count (omega arith)) ∙ kept name (λ core below. other core (omega arith))
 
 -- the same, by the name and the device that were handed in
-pub more : {D : Type 0} (view : D → DiskView) (areas : List (AreaView D)) (count : ℕ) (area : AreaView D) (old now new : Names) (name : List ℕ) (device : D) → count < 8
+pub more : {D : Type 0} (view : D → DiskView) (areas : List (AreaView D)) (count : ℕ) (area : AreaView D) (old now new : ShelfView) (name : List ℕ) (device : D) → count < 8
     → name ≡ journal_name count → device ≡ area.device
     → slice_get areas count ≡ Some area → ClosedBelow view areas count old now → KeptBut count old now
     → Closes (view device) (now name) (new name) → OthersStay name now new
@@ -127,7 +127,7 @@ all_quiet first one both old now new is was quiet =
     subst (λ r. OnOk r (new ≡ old)) (sym is) (quiet_of first one old now new was quiet)
 
 -- the journals of these areas are closed, and those of no area are kept
-pub closed_or_kept : {D : Type 0} (view : D → DiskView) (areas : List (AreaView D)) (old new : Names) (core : ℕ) → length areas ≤ 8 → core < 8
+pub closed_or_kept : {D : Type 0} (view : D → DiskView) (areas : List (AreaView D)) (old new : ShelfView) (core : ℕ) → length areas ≤ 8 → core < 8
     → ClosedBelow view areas (length areas) old new → KeptBut (length areas) old new
     → MatchOption (slice_get areas core) (new (journal_name core) ≡ old (journal_name core)) (λ area. Closes (view area.device) (old (journal_name core)) (new (journal_name core)))
 closed_or_kept view areas old new core few small journals kept =
@@ -139,7 +139,7 @@ closed_or_kept view areas old new core few small journals kept =
     ]
 
 -- home and then the journals are closed
-pub closed_all : {D : Type 0} (view : D → DiskView) (before old mid new : Names) (home : DiskView) (areas : List (AreaView D)) → length areas ≤ 8
+pub closed_all : {D : Type 0} (view : D → DiskView) (before old mid new : ShelfView) (home : DiskView) (areas : List (AreaView D)) → length areas ≤ 8
     → IsOut view before old home areas
     → Closes home (old home_name) (mid home_name) → OthersStay home_name old mid
     → ClosedBelow view areas (length areas) mid new → KeptBut (length areas) mid new
@@ -154,7 +154,7 @@ closed_all view before old mid new home areas few out closed stay journals kept 
 }
 
 -- what is closed is back
-pub all_back : {D : Type 0} (view : D → DiskView) (before now : Names) (home : DiskView) (areas : List (AreaView D)) → IsClosed view before now home areas → AllBack before now
+pub all_back : {D : Type 0} (view : D → DiskView) (before now : ShelfView) (home : DiskView) (areas : List (AreaView D)) → IsClosed view before now home areas → AllBack before now
 all_back view before now home areas closed = record {
   home = still (before home_name) (now home_name) home closed.home_back;
   journals = λ core small. still_some view (slice_get areas core) (before (journal_name core)) (now (journal_name core)) (closed.journals core small);

@@ -5,7 +5,7 @@ use Rattle.std.proofs.lemmas.Bool.{cases_eq, cases_lt}
 use Rattle.std.proofs.lemmas.Option.{slice_get_past}
 use Rattle.std.proofs.lemmas.List.{length_push}
 use Rattle.zj_dev.specs.Disk.{DiskView}
-use Rattle.zj_dev.specs.Shelf.{Names, OthersStay, Slot}
+use Rattle.zj_dev.specs.Shelf.{ShelfView, OthersStay, Slot}
 use Rattle.zj_area.specs.Journal.{AreaView}
 use Rattle.zj_home.specs.Super.{Super}
 use Rattle.zj_cli.specs.declared.status.Fault.{Fault}
@@ -14,7 +14,8 @@ use Rattle.zj_cli.specs.declared.status.ImageFault.TheVariants as images
 use Rattle.zj_cli.specs.Check.{IsJournalCause, IsOpened, OfLength}
 use Rattle.zj_cli.specs.Opening.{AreOpened, StopsOpening}
 use Rattle.zj_cli.specs.Set.{IsBack, IsLent, journal_name}
-use Rattle.zj_cli.proofs.SetLemmas.{back_same, journals_differ, rose_since}
+use Rattle.zj_dev.proofs.DiskLaws.{rose_since}
+use Rattle.zj_cli.proofs.SetLemmas.{back_same, journals_differ}
 
 -- ---- an element more
 
@@ -35,13 +36,13 @@ pub match_option : {X : Type 0} {P R : Type 0} {Q S : X → Type 0} (o : Option 
 match_option None none some h = none refl h
 match_option (Some x) none some h = some x refl h
 
-module _ {D : Type 0} (view : D → DiskView) (before : Names) (super : Super) where
+module _ {D : Type 0} (view : D → DiskView) (before : ShelfView) (super : Super) where
   -- none yet
   pub opened_none : AreOpened view before before super 0 []
   opened_none = record { many = refl; lengths = λ core below. absurd (omega arith); journals = λ core small. refl; others = λ name none. refl }
 
   -- one more
-  pub opened_more : (now new : Names) (count : ℕ) (areas : List (AreaView D)) (area : AreaView D) → count < 8 → AreOpened view before now super count areas → OthersStay (journal_name count) now new
+  pub opened_more : (now new : ShelfView) (count : ℕ) (areas : List (AreaView D)) (area : AreaView D) → count < 8 → AreOpened view before now super count areas → OthersStay (journal_name count) now new
       → IsLent (now (journal_name count)) (new (journal_name count)) (view area.device) → IsOpened super count area → OfLength (now (journal_name count)) (λ len. len ≡ super.sizes.area)
       → AreOpened view before new super (count + 1) (areas ++ area ∷ [])
   opened_more now new count areas area small so_far stay lent opened long =
@@ -80,7 +81,7 @@ module _ {D : Type 0} (view : D → DiskView) (before : Names) (super : Super) w
           ]
 
   -- the next one was refused
-  pub stops : (now new : Names) (count : ℕ) (areas : List (AreaView D)) (refused : Option D) → count < 8 → AreOpened view before now super count areas → OthersStay (journal_name count) now new
+  pub stops : (now new : ShelfView) (count : ℕ) (areas : List (AreaView D)) (refused : Option D) → count < 8 → AreOpened view before now super count areas → OthersStay (journal_name count) now new
       → MatchOption refused (new (journal_name count) ≡ now (journal_name count)) (λ d. IsLent (now (journal_name count)) (new (journal_name count)) (view d)) → StopsOpening view before new super areas refused
   stops now new count areas refused small so_far stay next =
       let many = so_far.many in
@@ -108,5 +109,5 @@ journal_cause_since slot old mid new super core faults.Input le cause = cause
 journal_cause_since slot old mid new super core faults.Output le cause = cause
 
 -- what stands under the name that is next
-pub next_slot : {D : Type 0} (view : D → DiskView) (before now : Names) (super : Super) (count : ℕ) (areas : List (AreaView D)) → count < 8 → AreOpened view before now super count areas → now (journal_name count) ≡ before (journal_name count)
+pub next_slot : {D : Type 0} (view : D → DiskView) (before now : ShelfView) (super : Super) (count : ℕ) (areas : List (AreaView D)) → count < 8 → AreOpened view before now super count areas → now (journal_name count) ≡ before (journal_name count)
 next_slot view before now super count areas small so_far = rw (slice_get_past areas count (omega (arith, so_far.many))) at (so_far.journals count small)

@@ -5,7 +5,7 @@ use Rattle.std.proofs.lemmas.Bool.{cases_eq}
 use Rattle.std.proofs.lemmas.Option.{slice_get_past}
 use Rattle.std.proofs.lemmas.Slice.Eq.{bytes_eq-Decides}
 use Rattle.zj_dev.specs.Disk.{DiskView}
-use Rattle.zj_dev.specs.Shelf.{Closes, Names, OthersStay, Slot, Untold, Absent, Out, Stands}
+use Rattle.zj_dev.specs.Shelf.{Closes, ShelfView, OthersStay, Slot, Untold, Absent, Out, Stands}
 use Rattle.zj_area.specs.Journal.{AreaView}
 use Rattle.zj_home.specs.Super.{Super}
 use Rattle.zj_cli.specs.Opening.{StopsOpening}
@@ -16,14 +16,14 @@ use Rattle.zj_cli.proofs.SetLemmas.{back_refl, back_same, home_differs, journals
 
 -- ---- a slot in place of another
 
-pub there : (name : List ℕ) (slot : Slot) (names : Names) → with_slot name slot names name ≡ slot
+pub there : (name : List ℕ) (slot : Slot) (names : ShelfView) → with_slot name slot names name ≡ slot
 there name slot names = by (bytes_eq name name) refl
   where
     by : (b : Bool) → bytes_eq name name ≡ b → with_slot name slot names name ≡ slot
     by true e = rw e
     by false e = absurd (let yes = (bytes_eq-Decides name name).1 refl in cc)
 
-pub elsewhere : (name other : List ℕ) (slot : Slot) (names : Names) → other ≢ name → with_slot name slot names other ≡ names other
+pub elsewhere : (name other : List ℕ) (slot : Slot) (names : ShelfView) → other ≢ name → with_slot name slot names other ≡ names other
 elsewhere name other slot names differ = by (bytes_eq other name) refl
   where
     by : (b : Bool) → bytes_eq other name ≡ b → with_slot name slot names other ≡ names other
@@ -43,7 +43,7 @@ back_last (Stands stood) now new last d lent back closes =
 back_last Absent now new last d lent back closes = absurd lent
 back_last Out now new last d lent back closes = absurd lent
 
-module _ {D : Type 0} (view : D → DiskView) (before mid now : Names) (super : Super) (home : DiskView) (areas : List (AreaView D)) (refused : Option D)
+module _ {D : Type 0} (view : D → DiskView) (before mid now : ShelfView) (super : Super) (home : DiskView) (areas : List (AreaView D)) (refused : Option D)
     (stay : OthersStay home_name before mid) (lent : IsLent (before home_name) (mid home_name) home) (stops : StopsOpening view mid now super areas refused) where
   abbrev pub name : List ℕ
   name = journal_name (length areas)
@@ -76,7 +76,7 @@ module _ {D : Type 0} (view : D → DiskView) (before mid now : Names) (super : 
       }
 
   -- what is back but for that one
-  back_elsewhere : (new last : Names) → AllBack (with_slot name (now name) before) new → OthersStay name new last → IsBack (before name) (last name) → AllBack before last
+  back_elsewhere : (new last : ShelfView) → AllBack (with_slot name (now name) before) new → OthersStay name new last → IsBack (before name) (last name) → AllBack before last
   back_elsewhere new last back stays one = record {
     home = rw (stays home_name (λ e. home_differs (length areas) (sym e)), ← elsewhere name home_name (now name) before (λ e. home_differs (length areas) (sym e))) back.home;
     journals = λ core small.
@@ -90,16 +90,16 @@ module _ {D : Type 0} (view : D → DiskView) (before mid now : Names) (super : 
   }
 
   -- the refused journal's slot since
-  back_there : (new : Names) → AllBack (with_slot name (now name) before) new → IsBack (now name) (new name)
+  back_there : (new : ShelfView) → AllBack (with_slot name (now name) before) new → IsBack (now name) (new name)
   back_there new back = subst (λ (s : Slot). IsBack s (new name)) (there name (now name) before) (back.journals (length areas) stops.few)
 
   -- none is out
-  pub none_out : refused ≡ None → (new : Names) → AllBack (with_slot name (now name) before) new → AllBack before new
+  pub none_out : refused ≡ None → (new : ShelfView) → AllBack (with_slot name (now name) before) new → AllBack before new
   none_out none new back = back_elsewhere new new back (λ other differ. refl)
       (let kept : now name ≡ stops.mid name = rw none at stops.next in subst (λ (s : Slot). IsBack s (new name)) (kept ∙ here) (back_there new back))
 
   -- that one was put back last
-  pub one_back : (d : D) → refused ≡ Some d → (new last : Names) → AllBack (with_slot name (now name) before) new → Closes (view d) (new name) (last name) → OthersStay name new last → AllBack before last
+  pub one_back : (d : D) → refused ≡ Some d → (new last : ShelfView) → AllBack (with_slot name (now name) before) new → Closes (view d) (new name) (last name) → OthersStay name new last → AllBack before last
   one_back d some new last back closes others = back_elsewhere new last back others
       (let out : IsLent (stops.mid name) (now name) (view d) = rw some at stops.next in
       back_last (before name) (now name) (new name) (last name) (view d) (subst (λ (s : Slot). IsLent s (now name) (view d)) here out) (back_there new back) closes)

@@ -8,7 +8,7 @@ use Rattle.zj_area.specs.Journal.{AreaView}
 use Rattle.zj_cli.specs.declared.status.Fault.{Fault}
 use Rattle.zj_cli.specs.Scanning.{AreCounted, AreRead, HoldsSome, IsAreaCause, StopsAt}
 use Rattle.zj_cli.proofs.OpenLemmas.{push_at, push_before}
-use Rattle.zj_cli.proofs.SetLemmas.{reads_refl}
+use Rattle.zj_dev.proofs.DiskLaws.{reads_refl}
 
 -- an element that was set
 set_there : {X : Type 0} (xs : List X) (i : ℕ) (x : X) → i < length xs → slice_get (set xs i x) i ≡ Some x

@@ -1,16 +1,16 @@
 -- Devices that are taken out of a shelf, read, and put back.
 use Rattle.std.proofs.Common.{◌≡◌, ◌≢◌, ℕ, ◌+◌, ◌<◌, ◌≤◌, List, [], ◌∷◌, slice_index, refl, sym, ap, subst, ◌∙◌, arith, inl, inr}
 use Rattle.std.specs.Prelude.{IfSome, codes, decimal}
-use Rattle.std.proofs.lemmas.Bool.{cases_lt}
 use Rattle.std.proofs.lemmas.Fmt.{decimal_digit, decimal_injective}
 use Rattle.zj_dev.specs.Fault.{Rose}
-use Rattle.zj_dev.specs.Disk.{Continues, DiskView, OnlyReads}
-use Rattle.zj_dev.specs.Shelf.{Closes, Names, Slot, Untold, Absent, Out, Stands}
+use Rattle.zj_dev.specs.Disk.{DiskView, OnlyReads}
+use Rattle.zj_dev.proofs.DiskLaws.{reads_refl, rose_since}
+use Rattle.zj_dev.specs.Shelf.{Closes, ShelfView, Slot, Untold, Absent, Out, Stands}
 use Rattle.zj_home.specs.Home.{IsCause}
 use Rattle.zj_home.specs.declared.fault.HomeFault.{HomeFault}
 use Rattle.zj_home.specs.declared.fault.HomeFault.TheVariants as homes
 use Rattle.zj_cli.specs.Check.{IsDevicesCause, OfDevice, OfLength, RoseUnder, fault_of_home}
-use Rattle.zj_cli.specs.Set.{IsBack, IsLent, IsPutBack, IsTaken, home_name, journal_name}
+use Rattle.zj_cli.specs.Set.{IsBack, IsLent, IsPutBack, IsTakenOut, home_name, journal_name}
 
 -- ---- names
 
@@ -31,40 +31,10 @@ j_not_h a b xs ys other e = other (ap (λ (l : List ℕ). slice_index l 0) e)
 pub home_differs : (core : ℕ) → journal_name core ≢ home_name
 home_differs core = j_not_h 106 104 (decimal core) (codes "ome") (λ e. omega (arith, e))
 
--- ---- reads
-
-pub continues_refl : (d : DiskView) → Continues d d
-continues_refl d = record { size = refl; calls = omega arith; no_fewer = omega arith; told = refl; images = λ moment image early. refl; past = λ moment early. refl }
-
-pub reads_refl : (d : DiskView) → OnlyReads d d
-reads_refl d = record {
-  goes_on = continues_refl d;
-  bytes = refl;
-  images = λ moment image from to. let now : moment ≡ d.calls = omega arith in ap (λ (m : ℕ). d.may_leave m image) now;
-}
-
-pub reads_trans : (a b c : DiskView) → OnlyReads a b → OnlyReads b c → OnlyReads a c
-reads_trans a b c first second = record {
-  goes_on = record {
-    size = second.goes_on.size ∙ first.goes_on.size;
-    calls = omega (arith, first.goes_on.calls, second.goes_on.calls);
-    no_fewer = omega (arith, first.goes_on.no_fewer, second.goes_on.no_fewer);
-    told = second.goes_on.told ∙ first.goes_on.told;
-    images = λ moment image early. second.goes_on.images moment image (omega (arith, first.goes_on.calls)) ∙ first.goes_on.images moment image early;
-    past = λ moment early. second.goes_on.past moment (omega (arith, first.goes_on.calls)) ∙ first.goes_on.past moment early;
-  };
-  bytes = second.bytes ∙ first.bytes;
-  images = λ moment image from to.
-      elim (cases_lt moment b.calls) [
-        | inl early ↦ second.goes_on.images moment image early ∙ first.images moment image from (omega arith)
-        | inr late ↦ second.images moment image late to ∙ first.images b.calls image first.goes_on.calls (omega arith)
-      ];
-}
-
 -- ---- one device
 
 -- a device that was taken out and then read
-pub lent_after : (slot now : Slot) (d d' : DiskView) → IsTaken slot now d → OnlyReads d d' → IsLent slot now d'
+pub lent_after : (slot now : Slot) (d d' : DiskView) → IsTakenOut slot now d → OnlyReads d d' → IsLent slot now d'
 lent_after Untold now d d' taken reads = taken
 lent_after (Stands stood) now d d' taken reads = (taken.0, subst (λ (x : DiskView). OnlyReads x d') taken.1 reads)
 lent_after Absent now d d' taken reads = taken
@@ -83,7 +53,7 @@ put_is_back (Stands stood) now d put = (d, put.0, put.1)
 put_is_back Absent now d put = absurd put
 put_is_back Out now d put = absurd put
 
-pub back_after : (slot mid now : Slot) (d d' : DiskView) → IsTaken slot mid d → OnlyReads d d' → Closes d' mid now → IsBack slot now
+pub back_after : (slot mid now : Slot) (d d' : DiskView) → IsTakenOut slot mid d → OnlyReads d d' → Closes d' mid now → IsBack slot now
 back_after slot mid now d d' taken reads closes = put_is_back slot now d' (put_after slot mid now d' (lent_after slot mid d d' taken reads) closes)
 
 -- nothing happened there
@@ -97,24 +67,17 @@ pub back_same : (slot now : Slot) → now ≡ slot → IsBack slot now
 back_same slot now e = subst (λ (s : Slot). IsBack slot s) (sym e) (back_refl slot)
 
 -- what holds of a device that was taken out holds of what stood there
-pub of_taken : (slot now : Slot) (d : DiskView) (P : List ℕ → Type 0) → IsTaken slot now d → IfSome d.bytes P → OfDevice slot P
+pub of_taken : (slot now : Slot) (d : DiskView) (P : List ℕ → Type 0) → IsTakenOut slot now d → IfSome d.bytes P → OfDevice slot P
 of_taken Untold now d P taken holds = tt
 of_taken (Stands stood) now d P taken holds = subst (λ (x : DiskView). IfSome x.bytes P) taken.1 holds
 of_taken Absent now d P taken holds = absurd taken
 of_taken Out now d P taken holds = absurd taken
 
-pub length_taken : (slot now : Slot) (d : DiskView) (P : ℕ → Type 0) → IsTaken slot now d → P d.size → OfLength slot P
+pub length_taken : (slot now : Slot) (d : DiskView) (P : ℕ → Type 0) → IsTakenOut slot now d → P d.size → OfLength slot P
 length_taken Untold now d P taken holds = tt
 length_taken (Stands stood) now d P taken holds = subst (λ (x : DiskView). P x.size) taken.1 holds
 length_taken Absent now d P taken holds = absurd taken
 length_taken Out now d P taken holds = absurd taken
-
--- a count that rose on the way rose in all
-pub rose_since : (a b c : ℕ) → a ≤ b → Rose b c → Rose a c
-rose_since a b c le rose = omega (arith, rose)
-
-pub rose_until : (a b c : ℕ) → Rose a b → b ≤ c → Rose a c
-rose_until a b c rose le = omega (arith, rose)
 
 -- the count of a device that was put back
 pub rose_put : (slot now : Slot) (from d : DiskView) → IsPutBack slot now d → ((stood : DiskView) → slot ≡ Stands stood → stood.faults ≤ from.faults) → Rose from.faults d.faults → RoseUnder slot now
@@ -124,11 +87,11 @@ rose_put Absent now from d put least rose = absurd put
 rose_put Out now from d put least rose = absurd put
 
 -- why a home was refused
-pub home_cause : (before now : Names) (old new : ℕ) (mid : Slot) (d d' : DiskView) (fault : HomeFault) → IsTaken (before home_name) mid d → OnlyReads d d' → Closes d' mid (now home_name) → IsCause d d' fault → IsDevicesCause before now old new (fault_of_home fault)
+pub home_cause : (before now : ShelfView) (old new : ℕ) (mid : Slot) (d d' : DiskView) (fault : HomeFault) → IsTakenOut (before home_name) mid d → OnlyReads d d' → Closes d' mid (now home_name) → IsCause d d' fault → IsDevicesCause before now old new (fault_of_home fault)
 home_cause before now old new mid d d' homes.DiskFault taken reads closes cause =
     inr (rose_put (before home_name) (now home_name) d d' (put_after (before home_name) mid (now home_name) d' (lent_after (before home_name) mid d d' taken reads) closes) (stood_is (before home_name) taken) cause)
   where
-    stood_is : (slot : Slot) → IsTaken slot mid d → (stood : DiskView) → slot ≡ Stands stood → stood.faults ≤ d.faults
+    stood_is : (slot : Slot) → IsTakenOut slot mid d → (stood : DiskView) → slot ≡ Stands stood → stood.faults ≤ d.faults
     stood_is Untold taken stood e = cc
     stood_is (Stands other) taken stood e = let same : d ≡ stood = taken.1 ∙ (let s : other ≡ stood = cc in s) in subst (λ (x : DiskView). stood.faults ≤ x.faults) (sym same) (omega arith)
     stood_is Absent taken stood e = absurd taken

@@ -3,10 +3,10 @@ use Rattle.std.specs.Prelude.{◌≡◌, ◌≢◌, ◌⊎◌, ℕ, ◌<◌, Lis
 use Rattle.zj_block.specs.declared.numbers.Tail.{Tail}
 use Rattle.zj_dev.specs.Fault.{Rose}
 use Rattle.zj_dev.specs.Stream.{Took}
-use Rattle.zj_dev.specs.Shelf.{Names, Slot, Untold, Absent, Out, Stands}
+use Rattle.zj_dev.specs.Shelf.{ShelfView, Slot, Untold, Absent, Out, Stands}
 use Rattle.zj_dev.specs.declared.device.Device.{Device}
 use Rattle.zj_dev.specs.declared.device.Device.TheVariants as devices
-use Rattle.zj_home.specs.Super.{Super, image_fault, super_of}
+use Rattle.zj_home.specs.Super.{OpensAs, Super, image_fault}
 use Rattle.zj_home.specs.declared.fault.HomeFault.{HomeFault}
 use Rattle.zj_home.specs.declared.fault.HomeFault.TheVariants as homes
 use Rattle.zj_tx.specs.Record.{Record}
@@ -41,34 +41,34 @@ IsMissing Out = ⊤
 IsMissing (Stands disk) = ⊥
 
 -- the home that stands there opens, and its super is this
-abbrev pub HasHome : Names → Super → Type 0
-HasHome names super = OfDevice (names home_name) (λ image. (image_fault image ≡ None) × (super_of image ≡ Some super))
+abbrev pub HasHome : ShelfView → Super → Type 0
+HasHome names super = OfDevice (names home_name) (λ image. OpensAs image super)
 
 -- the journals of the first cores, so many, stand there, each as long as its area
-abbrev pub HasJournals : Names → Super → ℕ → Type 0
+abbrev pub HasJournals : ShelfView → Super → ℕ → Type 0
 HasJournals names super count = (core : ℕ) → core < count → OfLength (names (journal_name core)) (λ len. len ≡ super.sizes.area)
 
 -- the journal of a core, read from its tail on, has this property
-abbrev pub OfJournal : Names → Super → ℕ → (List ℕ → Tail → Type 0) → Type 0
+abbrev pub OfJournal : ShelfView → Super → ℕ → (List ℕ → Tail → Type 0) → Type 0
 OfJournal names super core P = IfSome (slice_get super.tails core) (λ tail. OfDevice (names (journal_name core)) (λ image. P image tail))
 
 -- the journal of a core holds these records
-abbrev pub JournalHolds : Names → Super → ℕ → List Record → Type 0
+abbrev pub JournalHolds : ShelfView → Super → ℕ → List Record → Type 0
 JournalHolds names super core records = OfJournal names super core (λ image tail. (end : Tail) × Holds super.sizes core image tail records end)
 
 -- the journals of the first cores, so many, each hold some records
-abbrev pub AllHold : Names → Super → ℕ → Type 0
+abbrev pub AllHold : ShelfView → Super → ℕ → Type 0
 AllHold names super count = (core : ℕ) → core < count → (records : List Record) × JournalHolds names super core records
 
 -- A set of devices whose journals all hold records.
-pub record IsWhole (names : Names) (super : Super) : Type 0 where
+pub record IsWhole (names : ShelfView) (super : Super) : Type 0 where
   pub home : HasHome names super
   pub journals : HasJournals names super super.sizes.cores
   pub hold : AllHold names super super.sizes.cores
 
 -- Why an image is refused: by the first device that is missing or of another length, home first; then by the first
 -- journal that is damaged.
-abbrev pub IsImageCause : Names → ImageFault → Type 0
+abbrev pub IsImageCause : ShelfView → ImageFault → Type 0
 IsImageCause names (images.Absent devices.Home) = IsMissing (names home_name)
 IsImageCause names (images.Absent (devices.Journal core)) = (super : Super) × HasHome names super × (core < super.sizes.cores) × HasJournals names super core × IsMissing (names (journal_name core))
 IsImageCause names (images.NotAnImage at) = OfDevice (names home_name) (λ image. image_fault image ≡ Some (homes.NotAnImage at))
@@ -94,13 +94,13 @@ RoseUnder Out now = ⊥
 
 -- Why a device failed: the shelf failed to open or to close it, and the shelf's count of faults rose from `old` to `new`; or it
 -- failed to be read, and its own count rose. What comes before it is in order.
-abbrev pub IsDeviceCause : Names → Names → ℕ → ℕ → Device → Type 0
+abbrev pub IsDeviceCause : ShelfView → ShelfView → ℕ → ℕ → Device → Type 0
 IsDeviceCause before now old new devices.Home = Rose old new ⊎ RoseUnder (before home_name) (now home_name)
 IsDeviceCause before now old new (devices.Journal core) = (super : Super) × HasHome before super × (core < super.sizes.cores) × ((HasJournals before super core × Rose old new)
     ⊎ (HasJournals before super super.sizes.cores × AllHold before super core × RoseUnder (before (journal_name core)) (now (journal_name core))))
 
 -- why the devices were not all opened, read and closed
-abbrev pub IsDevicesCause : Names → Names → ℕ → ℕ → Fault → Type 0
+abbrev pub IsDevicesCause : ShelfView → ShelfView → ℕ → ℕ → Fault → Type 0
 IsDevicesCause before now old new (faults.Image fault) = IsImageCause before fault
 IsDevicesCause before now old new (faults.Device device) = IsDeviceCause before now old new device
 IsDevicesCause before now old new faults.Memory = ⊤
@@ -111,7 +111,7 @@ abbrev pub journal_text : ℕ → ℕ → ℕ → ℕ → List ℕ
 journal_text core number found kept = journal_name core ++ (codes " from " ++ (decimal number ++ (codes " found " ++ (decimal found ++ (codes " kept " ++ (decimal kept ++ 10 ∷ []))))))
 
 -- What `check` prints of an image of one core: since its transactions follow no other core's, all that are found are kept.
-pub record Checks (names : Names) (text : List ℕ) : Type 0 where
+pub record Checks (names : ShelfView) (text : List ℕ) : Type 0 where
   pub super : Super
   pub records : List Record
   pub home : HasHome names super

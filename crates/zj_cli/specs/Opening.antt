@@ -1,7 +1,7 @@
 -- The journals of an image as they are taken out of their shelf, one after the other.
 use Rattle.std.specs.Prelude.{◌≡◌, ◌⊎◌, ℕ, ◌<◌, ◌≤◌, List, length, Option, IfSome, MatchOption, slice_get}
 use Rattle.zj_dev.specs.Disk.{DiskView}
-use Rattle.zj_dev.specs.Shelf.{Names, OthersStay}
+use Rattle.zj_dev.specs.Shelf.{ShelfView, OthersStay}
 use Rattle.zj_dev.specs.declared.device.Device.TheVariants as devices
 use Rattle.zj_area.specs.Journal.{AreaView}
 use Rattle.zj_home.specs.Super.{Super}
@@ -11,7 +11,7 @@ use Rattle.zj_cli.specs.Check.{HasJournals, IsJournalCause, IsOpened}
 use Rattle.zj_cli.specs.Set.{IsBack, IsLent, IsNoJournal, journal_name}
 
 -- The journals of the first cores, so many, were taken out and opened, and all else is as it was.
-pub record AreOpened {D : Type 0} (view : D → DiskView) (before now : Names) (super : Super) (count : ℕ) (areas : List (AreaView D)) : Type 0 where
+pub record AreOpened {D : Type 0} (view : D → DiskView) (before now : ShelfView) (super : Super) (count : ℕ) (areas : List (AreaView D)) : Type 0 where
   pub many : length areas ≡ count
   pub lengths : HasJournals before super count
   pub journals : (core : ℕ) → core < 8 → MatchOption (slice_get areas core) (now (journal_name core) ≡ before (journal_name core))
@@ -20,15 +20,15 @@ pub record AreOpened {D : Type 0} (view : D → DiskView) (before now : Names) (
 
 -- Opening stopped at the next journal: those before it are out, its own device is out where it was taken out, and all else is
 -- as it was.
-pub record StopsOpening {D : Type 0} (view : D → DiskView) (before now : Names) (super : Super) (areas : List (AreaView D)) (refused : Option D) : Type 0 where
-  pub mid : Names
+pub record StopsOpening {D : Type 0} (view : D → DiskView) (before now : ShelfView) (super : Super) (areas : List (AreaView D)) (refused : Option D) : Type 0 where
+  pub mid : ShelfView
   pub few : length areas < 8
   pub opened : AreOpened view before mid super (length areas) areas
   pub others : OthersStay (journal_name (length areas)) mid now
   pub next : MatchOption refused (now (journal_name (length areas)) ≡ mid (journal_name (length areas))) (λ d. IsLent (mid (journal_name (length areas))) (now (journal_name (length areas))) (view d))
 
 -- why one of them was not opened: those before it were
-abbrev pub IsJournalsCause : Names → ℕ → ℕ → Super → Fault → Type 0
+abbrev pub IsJournalsCause : ShelfView → ℕ → ℕ → Super → Fault → Type 0
 IsJournalsCause before old new super fault = (core : ℕ) × (core < super.sizes.cores) × HasJournals before super core × IsJournalCause (before (journal_name core)) old new super core fault
 
 -- there is an area for each core, and each was just opened

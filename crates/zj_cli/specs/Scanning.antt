@@ -49,7 +49,7 @@ pub record Prints {D : Type 0} (view : D → DiskView) (super : Super) (areas : 
   pub text_is : IfSome (slice_get super.tails 0) (λ tail. text ≡ journal_text 0 tail.number (length records) (length records))
 
 -- why the journals were not told of: one was not read, or there are more than one
-abbrev pub IsReadCause : {D : Type 0} → (D → DiskView) → Super → List (AreaView D) → List (AreaView D) → Fault → Type 0
-IsReadCause view super old new fault = ((counts : List ℕ) × StopsAt view old new counts fault)
+abbrev pub IsCountingCause : {D : Type 0} → (D → DiskView) → Super → List (AreaView D) → List (AreaView D) → Fault → Type 0
+IsCountingCause view super old new fault = ((counts : List ℕ) × StopsAt view old new counts fault)
     ⊎ ((fault ≡ faults.Image (images.Unbuilt (devices.Journal 1))) × (1 < super.sizes.cores) × ((counts : List ℕ) × AreCounted view old counts (length old)))
     ⊎ (fault ≡ faults.Memory)

@@ -8,7 +8,7 @@ ghost use Rattle.zj_cli.specs.declared.status.Fault.TheVariants as faults;
 ghost use Rattle.zj_cli.specs.declared.tool.Command.TheVariants as commands;
 ghost use Rattle.zj_cli.specs.Check.{RunsCheck, journal_text};
 ghost use Rattle.zj_cli.specs.Opening.{AllOpened};
-ghost use Rattle.zj_cli.specs.Scanning.{AreRead, IsReadCause, Prints};
+ghost use Rattle.zj_cli.specs.Scanning.{AreRead, IsCountingCause, Prints};
 ghost use Rattle.zj_cli.specs.Tool.{IsBeforeWriting};
 
 use crate::close::close_set;
@@ -27,7 +27,7 @@ fn read_set<D: Disk>(alloc: Global, home: &Home<D>, areas: &mut [Area<D>]) -> Re
     requires { AllOpened home.now.told areas.old }
     ensures text { IfOk result (λ text. Prints D.view home.now.told areas.old (string_bytes text)) }
     ensures read { AreRead D.view areas.old areas.new }
-    ensures cause { IfErr result (IsReadCause D.view home.now.told areas.old areas.new) }
+    ensures cause { IfErr result (IsCountingCause D.view home.now.told areas.old areas.new) }
 {
     let mut counts = Vec::new(alloc);
     scan_all(areas, &mut counts)?;
@@ -76,7 +76,7 @@ fn print_set<D: Disk, K: Sink>(
     ensures printed { OnOk result ((text : List ℕ) × Prints D.view home.now.told areas.old text × Took (K.held out.old) (K.held out.new) text) }
     ensures quiet { OnOk result (K.faults out.new ≡ K.faults out.old) }
     ensures cause { IfErr result (λ fault. ((fault ≡ faults.Output) × ((front rest : List ℕ) × Prints D.view home.now.told areas.old (front ++ rest) × Took (K.held out.old) (K.held out.new) front) × Rose (K.faults out.old) (K.faults out.new))
-        ⊎ (IsReadCause D.view home.now.told areas.old areas.new fault × (out.new ≡ out.old))) }
+        ⊎ (IsCountingCause D.view home.now.told areas.old areas.new fault × (out.new ≡ out.old))) }
     ensures read { AreRead D.view areas.old areas.new }
 {
     let text = read_set(alloc, home, areas)?;

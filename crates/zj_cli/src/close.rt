@@ -2,7 +2,7 @@
 
 ghost use Rattle.std.specs.Prelude.{◌≡◌, ◌≢◌, ℕ, List, ◌<◌, ◌≤◌, IfErr, IfSome, OnOk, slice_get, length};
 ghost use Rattle.zj_dev.specs.Fault.{Rose};
-ghost use Rattle.zj_dev.specs.Shelf.{Names, OthersStay, Closes};
+ghost use Rattle.zj_dev.specs.Shelf.{ShelfView, OthersStay, Closes};
 ghost use Rattle.zj_cli.specs.declared.status.Fault.TheVariants as faults;
 ghost use Rattle.zj_home.specs.Super.{Super};
 ghost use Rattle.zj_cli.specs.Opening.{IsOfJournal, IsOfSet, StopsOpening};
@@ -61,7 +61,7 @@ pub(crate) fn close_set<H: Shelf>(
     areas: Vec<Area<H::D>>,
 ) -> Result<(), Fault>
     requires { length areas.items ≤ 8 }
-    ensures closed { (before : Names) → IsOut H.D.view before (H.names shelf.old) (H.D.view home.device) areas.items → IsClosed H.D.view before (H.names shelf.new) (H.D.view home.device) areas.items }
+    ensures closed { (before : ShelfView) → IsOut H.D.view before (H.names shelf.old) (H.D.view home.device) areas.items → IsClosed H.D.view before (H.names shelf.new) (H.D.view home.device) areas.items }
     ensures cause { IfErr result (λ fault. IsOfSet (length areas.items) fault × Rose (H.faults shelf.old) (H.faults shelf.new)) }
     ensures quiet { OnOk result (H.faults shelf.new ≡ H.faults shelf.old) }
     ensures no_fewer { H.faults shelf.old ≤ H.faults shelf.new }
@@ -79,7 +79,7 @@ pub(crate) fn close_refused<H: Shelf>(
     refused: Option<H::D>,
 )
     requires { length areas.items < 8 }
-    ensures back { (before mid : Names) (super : Super) → OthersStay home_name before mid → IsLent (before home_name) (mid home_name) (H.D.view home.device)
+    ensures back { (before mid : ShelfView) (super : Super) → OthersStay home_name before mid → IsLent (before home_name) (mid home_name) (H.D.view home.device)
         → StopsOpening H.D.view mid (H.names shelf.old) super areas.items refused → AllBack before (H.names shelf.new) }
     ensures no_fewer { H.faults shelf.old ≤ H.faults shelf.new }
 {

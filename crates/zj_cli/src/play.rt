@@ -3,7 +3,7 @@
 ghost use Rattle.std.specs.Prelude.{◌≡◌, ◌≢◌, ◌++◌, ℕ, [], IfOk, OnOk, OnErr};
 ghost use Rattle.std.specs.List.{flat_map};
 ghost use Rattle.std.specs.Result.{result_err};
-ghost use Rattle.zj_dev.specs.Shelf.{Names};
+ghost use Rattle.zj_dev.specs.Shelf.{ShelfView};
 ghost use Rattle.zj_tree.specs.Apply.{apply};
 ghost use Rattle.zj_tree.specs.Tree.{root_alone};
 ghost use Rattle.zj_script.specs.Answers.{answer_text};
@@ -29,7 +29,7 @@ const VERSION: u32 = 1;
 /// Reads a script, makes its calls from the root alone on, and writes their answers. It stands for any shelf,
 /// since it touches none.
 pub fn play<S: Source, K: Sink>(alloc: Global, input: &mut S, out: &mut K) -> Result<(), Fault>
-    ensures ends { (names : Names) (shelf_faults : ℕ) → PlayEnds 1 play_limits root_alone
+    ensures ends { (names : ShelfView) (shelf_faults : ℕ) → PlayEnds 1 play_limits root_alone
         (record { left = S.left input.old; held = K.held out.old; names = names; input_faults = S.faults input.old; output_faults = K.faults out.old; shelf_faults = shelf_faults })
         (record { left = S.left input.new; held = K.held out.new; names = names; input_faults = S.faults input.new; output_faults = K.faults out.new; shelf_faults = shelf_faults })
         (result_err result) }

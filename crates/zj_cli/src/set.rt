@@ -4,12 +4,12 @@ ghost use Rattle.std.specs.Prelude.{◌≡◌, ◌<◌, ◌≤◌, ◌^◌, [], 
 ghost use Rattle.zj_dev.specs.declared.device.Device.TheVariants as devices;
 ghost use Rattle.zj_dev.specs.Device.{device_name};
 ghost use Rattle.zj_dev.specs.Fault.{Rose};
-ghost use Rattle.zj_dev.specs.Shelf.{Names, OthersStay};
+ghost use Rattle.zj_dev.specs.Shelf.{ShelfView, OthersStay};
 ghost use Rattle.zj_cli.specs.Check.{HasHome, HasJournals, IsJournalCause, IsMissing, IsDevicesCause, IsOpened, OfLength, fault_of_home};
 ghost use Rattle.zj_cli.specs.declared.status.Fault.TheVariants as faults;
 ghost use Rattle.zj_cli.specs.declared.status.ImageFault.TheVariants as images;
 ghost use Rattle.zj_cli.specs.Opening.{AllOpened, AreOpened, IsJournalsCause, StopsOpening};
-ghost use Rattle.zj_cli.specs.Set.{AllBack, IsBack, IsLent, IsOut, IsTaken, home_name, journal_name};
+ghost use Rattle.zj_cli.specs.Set.{AllBack, IsBack, IsLent, IsOut, IsTakenOut, home_name, journal_name};
 
 use crate::close::close_refused;
 use crate::status::{Fault, ImageFault};
@@ -40,7 +40,7 @@ pub(crate) fn journal_name(core: u32) -> &'static str
 
 /// Takes a device out of its shelf, by its name.
 fn take_out<H: Shelf>(shelf: &mut H, device: Device, name: &str) -> Result<H::D, Fault>
-    ensures taken { IfOk result (λ d. IsTaken (H.names shelf.old name.now) (H.names shelf.new name.now) (H.D.view d)) }
+    ensures taken { IfOk result (λ d. IsTakenOut (H.names shelf.old name.now) (H.names shelf.new name.now) (H.D.view d)) }
     ensures same { OnErr result (H.names shelf.new name.now ≡ H.names shelf.old name.now) }
     ensures others { OthersStay name.now (H.names shelf.old) (H.names shelf.new) }
     ensures missing { IfErr result (λ fault. fault ≡ faults.Image (images.Absent device) → IsMissing (H.names shelf.old name.now)) }

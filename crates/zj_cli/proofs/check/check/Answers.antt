@@ -6,7 +6,6 @@ use Rattle.zj_cli.specs.Outside.{Outside}
 use Rattle.zj_cli.proofs.CheckLemmas.{as_many, checks, close_cause, closes, read_cause}
 use Rattle.zj_cli.proofs.CloseLemmas.{all_back}
 use Rattle.zj_cli.proofs.Ends.{ends, fails_to_print, if_err, on_ok, tells}
-use Rattle.zj_cli.proofs.SetLemmas.{rose_since}
 use Rattle.zj_cli.proofs.check.check.Goals as goal
 
 pub returns-clause-runs : goal.returns-clause-runs

@@ -1,4 +1,4 @@
-use Rattle.std.proofs.Common.{ℕ, ap, ◌∙◌}
+use Rattle.std.proofs.Common.{◌≡◌, ℕ, length, ap, ◌∙◌, arith}
 use Rattle.zj_cli.specs.Set.{journal_name}
 use Rattle.zj_cli.proofs.CloseLemmas.{all_back}
 use Rattle.zj_cli.proofs.Refused.{none_out, one_back, out_but_one}
@@ -22,6 +22,7 @@ returns-in-Some-clause-back g c before mid super stay lent stops =
     let areas = c.args.areas.items in
     let out = out_but_one view before mid now super home areas c.args.refused stay lent stops in
     let back = all_back view _ (g.H.Shelf.names c.close_set.new.shelf) home areas (c.close_set.ensures.closed _ out) in
-    let named = c.journal_name-name.ensures ∙ ap (λ (core : ℕ). journal_name core) c.len.ensures in
+    let many : c.len.result ≡ length c.args.areas.items = omega (arith, c.len.ensures) in
+    let named = c.journal_name-name.ensures ∙ ap (λ (core : ℕ). journal_name core) many in
     one_back view before mid now super home areas c.args.refused stay lent stops c.in-Some.d c.in-Some.is (g.H.Shelf.names c.close_set.new.shelf) (g.H.Shelf.names c.close.new.self) back
         (rw named at c.close.ensures.closed) (rw named at c.close.ensures.others)

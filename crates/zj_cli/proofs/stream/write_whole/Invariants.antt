@@ -7,6 +7,7 @@ invariant-loop-rest g l = record {
   written : List ℕ;
   whole : written ++ l.rest ≡ l.fn.bytes;
   took : Took (g.K.Sink.held l.fn.out) (g.K.Sink.held l.out) written;
+  quiet : g.K.Sink.faults l.out ≡ g.K.Sink.faults l.fn.out;
   no_fewer : g.K.Sink.faults l.fn.out ≤ g.K.Sink.faults l.out;
 }
 
