@@ -16,3 +16,6 @@ pub use tool::zj_tool;
 
 
 
+
+#[cfg(test)]
+mod tests;

@@ -1,5 +1,4 @@
 pub mod Numbers
 pub mod Splitting
 pub mod Words
-
 pub mod Lines

@@ -134,8 +134,8 @@ one_list one cores (l ∷ lines) (o ∷ others) few all others_all e =
     let pair : numbered_text l ≡ numbered_text o = cc in
     let rest : map numbered_text lines ≡ map numbered_text others = cc in
     let heads : l ≡ o = one cores l.number (spelled (line_words l)) l o few
-        (record { number_is = refl; text_is = refl; can_stand = all_first (CanStand cores) l lines all })
-        (record { number_is = sym (ap (λ (p : ℕ × List ℕ). p.0) pair); text_is = sym (ap (λ (p : ℕ × List ℕ). p.1) pair); can_stand = all_first (CanStand cores) o others others_all }) in
+    (record { number_is = refl; text_is = refl; can_stand = all_first (CanStand cores) l lines all })
+    (record { number_is = sym (ap (λ (p : ℕ × List ℕ). p.0) pair); text_is = sym (ap (λ (p : ℕ × List ℕ). p.1) pair); can_stand = all_first (CanStand cores) o others others_all }) in
     let tails : lines ≡ others = one_list one cores lines others few (all_rest (CanStand cores) l lines all) (all_rest (CanStand cores) o others others_all) rest in
     λ i. heads i ∷ tails i
 

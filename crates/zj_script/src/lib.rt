@@ -12,10 +12,12 @@ mod answer;
 pub mod laws;
 mod line;
 mod number;
-mod script;
 mod parts;
+mod script;
 
 pub use answer::{Answer, write_answer};
 pub use line::Line;
 pub use script::{MAX_BYTES, MAX_LINES, read_script};
 
+#[cfg(test)]
+mod tests;

@@ -16,11 +16,7 @@ pub const MAX_BYTES: usize = 16_777_216;
 pub const MAX_LINES: u32 = 65_536;
 
 /// The lines of a script for so many cores, or None exactly where the input is no script.
-pub fn read_script(
-    alloc: Global,
-    cores: u32,
-    input: &[u8],
-) -> Result<Option<Vec<Line>>, AllocError>
+pub fn read_script(alloc: Global, cores: u32, input: &[u8]) -> Result<Option<Vec<Line>>, AllocError>
     ensures some { IfOk result (λ found. IfSome found (λ lines. IsScript cores input.now lines.items)) }
     ensures none { IfOk result (λ found. IfNone found ((lines : List Line) → IsScript cores input.now lines → ⊥)) }
 {

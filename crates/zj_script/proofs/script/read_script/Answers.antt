@@ -79,7 +79,7 @@ loop-text-preserved c =
     }
 
 pub returns-clause-some : goal.returns-clause-some
-returns-clause-some c = 
+returns-clause-some c =
     let loop = c.loop-text.invariant in
     let none : but_empty_last (parts_left c.loop-text.texts) ≡ [] = ap (λ (left : List (List ℕ)). but_empty_last left) c.in_default.ensures.part in
     all_read c.args.cores c.args.input.now loop.texts c.loop-text.lines.items c.loop-text.number (omega (arith, c.if-input-gt-MAX_BYTES.false)) (loop.whole ∙ ap (λ (left : List (List ℕ)). loop.texts ++ left) none) loop.number_is loop.at_most loop.numbered loop.can_stand
