@@ -7,19 +7,14 @@ use Rattle.zj_block.specs.Sizes.{Numbers}
 use Rattle.zj_block.specs.declared.numbers.Tail.{Tail}
 use Rattle.zj_dev.specs.Disk.{DiskView, EachImageSince, IsDisk, IsSettled, SameOutside, replaced}
 use Rattle.zj_tx.specs.Record.{Accepts, IsRecord, Record, record_bytes}
-use Rattle.zj_area.specs.Ring.{Holds, IsOpenAt, LieBetween, Stand, StandsAt, behind, len_of}
+use Rattle.zj_area.specs.Ring.{Holds, IsOpenAt, AllLive, HasRecords, HasRecordAt, behind, len_of}
 use Rattle.zj_area.specs.Journal.{IsAtRest, IsJournal, IsLaid, JournalView, fullness, with_open}
 use Rattle.zj_area.specs.Moments.{TornByGate, TornByLay}
-use Rattle.zj_area.proofs.Outside.{byte_outside, length_replaced, one_byte, part_outside, replaced_outside, replaced_there, stand_stays}
+use Rattle.zj_dev.proofs.DiskLaws.{byte_outside, length-replaced, one_byte, part_outside, replaced_outside, replaced_there, told_length}
+use Rattle.zj_area.proofs.Outside.{stand_stays}
 use Rattle.zj_area.proofs.Parts.{first_byte, part_split}
 use Rattle.zj_area.proofs.Readings.{stand_more}
 use Rattle.zj_area.proofs.Room.{Goes, HasRoom, clear_gate, clear_next, clear_record, has_room, lie_new, next_apart}
-
--- the bytes that a disk tells fill it
-pub told_length : (disk : DiskView) (image : List ℕ) → IsDisk disk → disk.bytes ≡ Some image → length image ≡ disk.size
-told_length disk image is e =
-    let now = rw e at is.current in
-    (is.filled disk.calls image (omega arith) now).0
 
 -- a gate that isn't open, where its byte is another
 pub not_open : (image : List ℕ) (place byte : ℕ) → slice_index image place ≡ byte → byte ≢ 1 → IsOpenAt image place → ⊥
@@ -70,9 +65,9 @@ module _ (n : Numbers) (core : ℕ) (tail end : Tail) (len next : ℕ) (goes : G
       let second = laid bytes spelled in
       let third = with_open second end.place in
       let fits : end.place + 1 + length (drop 1 spelled) ≤ length bytes = omega (arith, body_len, size, goes.most, goes.end_place, goes.some) in
-      let first_size = length_replaced bytes (end.place + 1) (drop 1 spelled) fits in
+      let first_size = length-replaced bytes (end.place + 1) (drop 1 spelled) fits in
       let next_fits : next + 1 ≤ length first = elim goes.next_is [ inl on ↦ omega (arith, on.0, on.1, first_size, size, goes.some, goes.most) | inr over ↦ omega (arith, over.0, first_size, size, goes.twice, goes.some, goes.most) ] in
-      let second_size = length_replaced first next (0 ∷ []) next_fits in
+      let second_size = length-replaced first next (0 ∷ []) next_fits in
       let end_fits : end.place + 1 ≤ length second = omega (arith, second_size, first_size, size, goes.end_place, goes.some, goes.most) in
       let body_third : slice_range third (end.place + 1) (end.place + 1 + m) ≡ slice_range second (end.place + 1) (end.place + 1 + m) =
       part_outside end.place 1 second third (end.place + 1) (end.place + 1 + m) (replaced_outside second end.place (1 ∷ []) end_fits) (inr (omega arith)) in
@@ -93,7 +88,7 @@ module _ (n : Numbers) (core : ℕ) (tail end : Tail) (len next : ℕ) (goes : G
       let body_len = body_count spelled many in
       let first = replaced bytes (end.place + 1) (drop 1 spelled) in
       let fits : end.place + 1 + length (drop 1 spelled) ≤ length bytes = omega (arith, body_len, size, goes.most, goes.end_place, goes.some) in
-      let first_size = length_replaced bytes (end.place + 1) (drop 1 spelled) fits in
+      let first_size = length-replaced bytes (end.place + 1) (drop 1 spelled) fits in
       let next_fits : next + 1 ≤ length first = elim goes.next_is [ inl on ↦ omega (arith, on.0, on.1, first_size, size, goes.some, goes.most) | inr over ↦ omega (arith, over.0, first_size, size, goes.twice, goes.some, goes.most) ] in
       record {
         holds = laid_holds records bytes first (laid bytes spelled) is
@@ -110,9 +105,9 @@ module _ (n : Numbers) (core : ℕ) (tail end : Tail) (len next : ℕ) (goes : G
       let second = laid bytes spelled in
       let third = with_open second end.place in
       let fits : end.place + 1 + length (drop 1 spelled) ≤ length bytes = omega (arith, body_len, size, goes.most, goes.end_place, goes.some) in
-      let first_size = length_replaced bytes (end.place + 1) (drop 1 spelled) fits in
+      let first_size = length-replaced bytes (end.place + 1) (drop 1 spelled) fits in
       let next_fits : next + 1 ≤ length first = elim goes.next_is [ inl on ↦ omega (arith, on.0, on.1, first_size, size, goes.some, goes.most) | inr over ↦ omega (arith, over.0, first_size, size, goes.twice, goes.some, goes.most) ] in
-      let second_size = length_replaced first next (0 ∷ []) next_fits in
+      let second_size = length-replaced first next (0 ∷ []) next_fits in
       let end_fits : end.place + 1 ≤ length second = omega (arith, second_size, first_size, size, goes.end_place, goes.some, goes.most) in
       let zero : slice_index second next ≡ 0 = sym (first_byte second next (0 ∷ []) [] (omega arith) (sym (replaced_there first next (0 ∷ []) next_fits))) in
       let apart : (next < end.place) ⊎ (end.place + 1 ≤ next) = elim (apart_from_next n tail.place end.place len next goes) [ inl on ↦ inr (omega arith) | inr over ↦ inl (omega arith) ] in
@@ -130,13 +125,13 @@ module _ (n : Numbers) (core : ℕ) (tail end : Tail) (len next : ℕ) (goes : G
       let outside = replaced_outside second end.place (1 ∷ []) (omega (arith, second_size, goes.end_place, goes.some, goes.most)) in
       let stand = stand_stays n core end.place 1 second third records tail end outside (clear_gate n tail.place end.place tail records is.between) whole.holds.stand in
       let there : slice_range third end.place (end.place + len_of r) ≡ spelled = ap (λ (k : ℕ). slice_range third end.place (end.place + k)) many ∙ record_there bytes spelled size many ∙ sym (first_one spelled gate) in
-      let stood : StandsAt n core third end r = record { is_record = is_record; accepted = accepted; spelled = there } in
+      let stood : HasRecordAt n core third end r = record { is_record = is_record; accepted = accepted; spelled = there } in
       record {
         holds = record {
-          stand = subst (λ (t : Tail). Stand n core third tail (records ++ r ∷ []) t) (sym due_is) (stand_more n core third records tail end r stand stood);
+          stand = subst (λ (t : Tail). HasRecords n core third tail (records ++ r ∷ []) t) (sym due_is) (stand_more n core third records tail end r stand stood);
           closed = subst (λ (p : ℕ). IsOpenAt third p → ⊥) here (next_closed bytes spelled size many);
         };
-        between = subst (λ (p : ℕ). LieBetween n tail.place p tail (records ++ r ∷ [])) here
+        between = subst (λ (p : ℕ). AllLive n tail.place p tail (records ++ r ∷ [])) here
             (lie_new n core bytes tail.place next records tail end r (subst (λ (k : ℕ). Goes n tail.place end.place k next) (sym many) goes) is.holds.stand is.between);
       }
     where
@@ -149,9 +144,9 @@ module _ (n : Numbers) (core : ℕ) (tail end : Tail) (len next : ℕ) (goes : G
           let body_len = body_count spelled many in
           let first = replaced bytes (end.place + 1) (drop 1 spelled) in
           let fits : end.place + 1 + length (drop 1 spelled) ≤ length bytes = omega (arith, body_len, size, goes.most, goes.end_place, goes.some) in
-          let first_size = length_replaced bytes (end.place + 1) (drop 1 spelled) fits in
+          let first_size = length-replaced bytes (end.place + 1) (drop 1 spelled) fits in
           let next_fits : next + 1 ≤ length first = elim goes.next_is [ inl on ↦ omega (arith, on.0, on.1, first_size, size, goes.some, goes.most) | inr over ↦ omega (arith, over.0, first_size, size, goes.twice, goes.some, goes.most) ] in
-          length_replaced first next (0 ∷ []) next_fits ∙ first_size ∙ size
+          length-replaced first next (0 ∷ []) next_fits ∙ first_size ∙ size
 
 -- ---- on a disk
 
@@ -175,9 +170,9 @@ module _ (j : JournalView) (len next : ℕ) (goes : HasRoom j.sizes j.tail.place
   goes_on records image is = goes (has_room j.sizes j.core image records j.tail j.end is.holds.stand none)
 
   -- laying, at each moment
-  pub lays_quietly : (new : DiskView) → EachImageSince j.disk.calls new (TornByLay j.end.place len next j.disk) → (records : List Record) → IsAtRest j records
+  pub keeps_records : (new : DiskView) → EachImageSince j.disk.calls new (TornByLay j.end.place len next j.disk) → (records : List Record) → IsAtRest j records
       → EachImageSince j.disk.calls new (λ image. Holds j.sizes j.core image j.tail records j.end)
-  lays_quietly new torn records rest moment image from to may =
+  keeps_records new torn records rest moment image from to may =
       let t = torn moment image from to may in
       let is = of_settled (λ i. IsJournal j.sizes j.core i j.tail records j.end) j.disk rest.settled rest.journal t.before t.left in
       laid_holds j.sizes j.core j.tail j.end len next (goes_on records t.before is) records t.before t.middle image is t.body t.gate
@@ -223,11 +218,6 @@ module _ (j : JournalView) (next : Tail) (is_disk : IsDisk j.disk) (size : j.dis
       either records r t.before image (told_length j.disk t.before is_disk told ∙ size)
       (of_settled (λ i. IsJournal j.sizes j.core i j.tail records j.end) j.disk laid.at_rest.settled laid.at_rest.journal t.before t.left)
       (of_settled (λ i. IsJournal j.sizes j.core (with_open i j.end.place) j.tail (records ++ r ∷ []) next) j.disk laid.at_rest.settled laid.opens t.before t.left) t.gate
-
-  pub begins_quietly : (new : DiskView) → ((image : List ℕ) → j.disk.calls < new.calls → new.may_leave j.disk.calls image ≡ true → j.disk.may_leave j.disk.calls image ≡ true) → (records : List Record) (r : Record) → IsLaid j records r next
-      → (image : List ℕ) → j.disk.calls < new.calls → new.may_leave j.disk.calls image ≡ true → Holds j.sizes j.core image j.tail records j.end
-  begins_quietly new first records r laid image later may =
-      (of_settled (λ i. IsJournal j.sizes j.core i j.tail records j.end) j.disk laid.at_rest.settled laid.at_rest.journal image (first image later may)).holds
 
   -- and once it is done
   pub opens_done : (new : DiskView) → IsSettled new → new.bytes ≡ option_map (λ bytes. replaced bytes j.end.place (1 ∷ [])) j.disk.bytes → (records : List Record) (r : Record) → IsLaid j records r next → IsAtRest (moved j new next) (records ++ r ∷ [])

@@ -11,8 +11,8 @@ use Rattle.zj_tx.specs.Laws.{SpellingLength}
 use Rattle.zj_tx.specs.Record.{Accepts, IsRecord, Record, record_bytes}
 use Rattle.zj_tx.specs.declared.fault.RecordFault.{RecordFault}
 use Rattle.zj_tx.specs.declared.fault.RecordFault.TheVariants.{Bad, NoMemory}
-use Rattle.zj_area.specs.Ring.{IsOpenAt, StandsAt, len_of}
-use Rattle.zj_area.specs.Reading.{FitsBehind, IsBad, IsRefusal, TellsLength, fault_placed}
+use Rattle.zj_area.specs.Ring.{IsOpenAt, HasRecordAt, len_of}
+use Rattle.zj_area.specs.Reading.{FitsBehind, IsBad, IsRecordCause, TellsLength, fault_placed}
 use Rattle.zj_area.proofs.Parts.{part_is}
 
 -- the place of a fault fits
@@ -30,7 +30,7 @@ head_at image p n long = ap (take 24) (part_is image p n) ∙ take-take 24 n (dr
 
 module _ (law : SpellingLength) (n : Numbers) (core : ℕ) (due : Tail) (buffer : List ℕ) (len : ℕ) (long : 24 ≤ len) (tells : TellsLength n buffer len) where
   -- what was decoded stands there
-  pub stands : (r : Record) (rest : List ℕ) → IsRecord r → Accepts n core due.number r → buffer ≡ record_bytes r ++ rest → (image : List ℕ) → take len buffer ≡ slice_range image due.place (due.place + len) → StandsAt n core image due r
+  pub stands : (r : Record) (rest : List ℕ) → IsRecord r → Accepts n core due.number r → buffer ≡ record_bytes r ++ rest → (image : List ℕ) → take len buffer ≡ slice_range image due.place (due.place + len) → HasRecordAt n core image due r
   stands r rest is accepted e image read =
       let head : take 24 buffer ≡ take 24 (record_bytes r) = ap (take 24) e ∙ take-append-le 24 (record_bytes r) rest (has_head law r is) in
       let many : len ≡ len_of r = tells r is accepted.cores (sym head) in
@@ -41,7 +41,7 @@ module _ (law : SpellingLength) (n : Numbers) (core : ℕ) (due : Tail) (buffer 
       }
 
   -- what stands there is in the buffer
-  pub in_buffer : (r : Record) (image : List ℕ) → take len buffer ≡ slice_range image due.place (due.place + len) → StandsAt n core image due r → buffer ≡ record_bytes r ++ drop len buffer
+  pub in_buffer : (r : Record) (image : List ℕ) → take len buffer ≡ slice_range image due.place (due.place + len) → HasRecordAt n core image due r → buffer ≡ record_bytes r ++ drop len buffer
   in_buffer r image read stood =
       let mine : take 24 buffer ≡ take 24 (drop due.place image) = sym (take-take 24 len buffer long) ∙ ap (take 24) read ∙ head_at image due.place len long in
       let his : take 24 (record_bytes r) ≡ take 24 (drop due.place image) = ap (take 24) (sym stood.spelled) ∙ head_at image due.place (len_of r) (has_head law r stood.is_record) in
@@ -52,7 +52,7 @@ module _ (law : SpellingLength) (n : Numbers) (core : ℕ) (due : Tail) (buffer 
   pub refused : (old new : DiskView) (fault : RecordFault) → length buffer ≡ max_record n → IsFaultIn (length buffer) fault
       → IfBad fault ((r : Record) (rest : List ℕ) → IsRecord r → Accepts n core due.number r → buffer ≢ record_bytes r ++ rest)
       → IfSome old.bytes (λ image. IsOpenAt image due.place) → IfSome old.bytes (λ image. take len buffer ≡ slice_range image due.place (due.place + len))
-      → IsRefusal n core old new due (fault_placed due.place fault)
+      → IsRecordCause n core old new due (fault_placed due.place fault)
   refused old new NoMemory room is none opens read = tt
   refused old new (Bad at found expected) room is none opens read = both old.bytes opens read
     where

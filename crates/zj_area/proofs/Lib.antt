@@ -7,3 +7,4 @@ pub mod Outside
 pub mod Room
 pub mod Commits
 pub mod Keeps
+pub mod Rest

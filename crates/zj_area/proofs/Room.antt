@@ -7,7 +7,7 @@ use Rattle.std.proofs.lemmas.Grind.{common_steps}
 use Rattle.zj_block.specs.Sizes.{Numbers, max_record}
 use Rattle.zj_block.specs.declared.numbers.Tail.{Tail}
 use Rattle.zj_tx.specs.Record.{Record}
-use Rattle.zj_area.specs.Ring.{IsBetween, LieBetween, Stand, behind, len_of, next_place}
+use Rattle.zj_area.specs.Ring.{IsLive, AllLive, HasRecords, behind, len_of, next_place}
 use Rattle.zj_area.specs.Journal.{fullness, lacking}
 use Rattle.zj_area.specs.declared.area.Full.{Full}
 use Rattle.zj_area.proofs.Outside.{Clear}
@@ -29,25 +29,25 @@ pub record Goes (n : Numbers) (tail end len next : ℕ) : Type 0 where
   pub room : HasRoom n tail end
 
 -- what lies between tail and end is outside the bytes of that record
-outside_record : (n : Numbers) (tail end len next from to : ℕ) → Goes n tail end len next → IsBetween tail end from to → (to ≤ end) ⊎ (end + len ≤ from)
+outside_record : (n : Numbers) (tail end len next from to : ℕ) → Goes n tail end len next → IsLive tail end from to → (to ≤ end) ⊎ (end + len ≤ from)
 outside_record n tail end len next from to goes (inl on) = inl on.2
 outside_record n tail end len next from to goes (inr (over, inr before)) = inl before
 outside_record n tail end len next from to goes (inr (over, inl after)) = let room = goes.room.before_tail over in inr (omega (arith, goes.most))
 
 -- and outside the gate of the next
-outside_next : (n : Numbers) (tail end len next from to : ℕ) → Goes n tail end len next → IsBetween tail end from to → (to ≤ next) ⊎ (next + 1 ≤ from)
+outside_next : (n : Numbers) (tail end len next from to : ℕ) → Goes n tail end len next → IsLive tail end from to → (to ≤ next) ⊎ (next + 1 ≤ from)
 outside_next n tail end len next from to goes between =
     elim goes.next_is [
       | inl on ↦ after on between
       | inr over ↦ start over between
     ]
   where
-    after : (next ≡ end + len) × (end + len + max_record n ≤ n.area) → IsBetween tail end from to → (to ≤ next) ⊎ (next + 1 ≤ from)
+    after : (next ≡ end + len) × (end + len + max_record n ≤ n.area) → IsLive tail end from to → (to ≤ next) ⊎ (next + 1 ≤ from)
     after on (inl at) = inl (omega (arith, on.0, at.2))
     after on (inr (turned, inr before)) = inl (omega (arith, on.0))
     after on (inr (turned, inl behind)) = let room = goes.room.before_tail turned in inr (omega (arith, goes.most, on.0))
 
-    start : (next ≡ 0) × (n.area < end + len + max_record n) → IsBetween tail end from to → (to ≤ next) ⊎ (next + 1 ≤ from)
+    start : (next ≡ 0) × (n.area < end + len + max_record n) → IsLive tail end from to → (to ≤ next) ⊎ (next + 1 ≤ from)
     start over (inr (turned, side)) = let room = goes.room.before_tail turned in absurd (omega (arith, goes.most, goes.tail_place, over.1))
     start over (inl at) =
         elim (cases_eq tail 0) [
@@ -56,19 +56,19 @@ outside_next n tail end len next from to goes between =
         ]
 
 -- and between the tail and the next end
-between_more : (n : Numbers) (tail end len next from to : ℕ) → Goes n tail end len next → IsBetween tail end from to → IsBetween tail next from to
+between_more : (n : Numbers) (tail end len next from to : ℕ) → Goes n tail end len next → IsLive tail end from to → IsLive tail next from to
 between_more n tail end len next from to goes between =
     elim goes.next_is [
       | inl on ↦ after on between
       | inr over ↦ start over between
     ]
   where
-    after : (next ≡ end + len) × (end + len + max_record n ≤ n.area) → IsBetween tail end from to → IsBetween tail next from to
+    after : (next ≡ end + len) × (end + len + max_record n ≤ n.area) → IsLive tail end from to → IsLive tail next from to
     after on (inl at) = inl (omega (arith, on.0, at.0), at.1, omega (arith, on.0, at.2))
     after on (inr (turned, inl behind)) = let room = goes.room.before_tail turned in inr (omega (arith, goes.most, on.0), inl behind)
     after on (inr (turned, inr before)) = let room = goes.room.before_tail turned in inr (omega (arith, goes.most, on.0), inr (omega (arith, on.0)))
 
-    start : (next ≡ 0) × (n.area < end + len + max_record n) → IsBetween tail end from to → IsBetween tail next from to
+    start : (next ≡ 0) × (n.area < end + len + max_record n) → IsLive tail end from to → IsLive tail next from to
     start over (inr (turned, side)) = let room = goes.room.before_tail turned in absurd (omega (arith, goes.most, goes.tail_place, over.1))
     start over (inl at) =
         elim (cases_eq tail 0) [
@@ -77,7 +77,7 @@ between_more n tail end len next from to goes between =
         ]
 
 -- the new record lies between them too
-new_between : (n : Numbers) (tail end len next : ℕ) → Goes n tail end len next → IsBetween tail next end (end + len)
+new_between : (n : Numbers) (tail end len next : ℕ) → Goes n tail end len next → IsLive tail next end (end + len)
 new_between n tail end len next goes =
     elim goes.next_is [
       | inl on ↦
@@ -113,44 +113,44 @@ next_apart n tail end len next goes =
 
 -- ---- of all records
 
-pub clear_record : (n : Numbers) (tail end len next : ℕ) (at : Tail) (records : List Record) → Goes n tail end len next → LieBetween n tail end at records → Clear n (end + 1) (len - 1) at records
+pub clear_record : (n : Numbers) (tail end len next : ℕ) (at : Tail) (records : List Record) → Goes n tail end len next → AllLive n tail end at records → Clear n (end + 1) (len - 1) at records
 clear_record n tail end len next at [] goes lie = tt
 clear_record n tail end len next at (r ∷ rs) goes lie = (
   elim (outside_record n tail end len next at.place (at.place + len_of r) goes lie.0) [ inl before ↦ inl (omega arith) | inr behind ↦ inr (omega (arith, goes.some)) ],
   clear_record n tail end len next (behind n at r) rs goes lie.1,
 )
 
-pub clear_next : (n : Numbers) (tail end len next : ℕ) (at : Tail) (records : List Record) → Goes n tail end len next → LieBetween n tail end at records → Clear n next 1 at records
+pub clear_next : (n : Numbers) (tail end len next : ℕ) (at : Tail) (records : List Record) → Goes n tail end len next → AllLive n tail end at records → Clear n next 1 at records
 clear_next n tail end len next at [] goes lie = tt
 clear_next n tail end len next at (r ∷ rs) goes lie = (outside_next n tail end len next at.place (at.place + len_of r) goes lie.0, clear_next n tail end len next (behind n at r) rs goes lie.1)
 
-pub lie_more : (n : Numbers) (tail end len next : ℕ) (at : Tail) (records : List Record) → Goes n tail end len next → LieBetween n tail end at records → LieBetween n tail next at records
+pub lie_more : (n : Numbers) (tail end len next : ℕ) (at : Tail) (records : List Record) → Goes n tail end len next → AllLive n tail end at records → AllLive n tail next at records
 lie_more n tail end len next at [] goes lie = tt
 lie_more n tail end len next at (r ∷ rs) goes lie = (between_more n tail end len next at.place (at.place + len_of r) goes lie.0, lie_more n tail end len next (behind n at r) rs goes lie.1)
 
 -- the gate at the end lies outside all records
-pub clear_gate : (n : Numbers) (tail end : ℕ) (at : Tail) (records : List Record) → LieBetween n tail end at records → Clear n end 1 at records
+pub clear_gate : (n : Numbers) (tail end : ℕ) (at : Tail) (records : List Record) → AllLive n tail end at records → Clear n end 1 at records
 clear_gate n tail end at [] lie = tt
 clear_gate n tail end at (r ∷ rs) lie = (apart lie.0, clear_gate n tail end (behind n at r) rs lie.1)
   where
-    apart : IsBetween tail end at.place (at.place + len_of r) → (at.place + len_of r ≤ end) ⊎ (end + 1 ≤ at.place)
+    apart : IsLive tail end at.place (at.place + len_of r) → (at.place + len_of r ≤ end) ⊎ (end + 1 ≤ at.place)
     apart (inl on) = inl on.2
     apart (inr (turned, inr before)) = inl before
     apart (inr (turned, inl after)) = inr (omega arith)
 
 -- with the record at the end
-pub lie_push : (n : Numbers) (core : ℕ) (image : List ℕ) (tail next : ℕ) (records : List Record) (at end : Tail) (r : Record) → Stand n core image at records end → LieBetween n tail next at records → IsBetween tail next end.place (end.place + len_of r) → LieBetween n tail next at (records ++ r ∷ [])
+pub lie_push : (n : Numbers) (core : ℕ) (image : List ℕ) (tail next : ℕ) (records : List Record) (at end : Tail) (r : Record) → HasRecords n core image at records end → AllLive n tail next at records → IsLive tail next end.place (end.place + len_of r) → AllLive n tail next at (records ++ r ∷ [])
 lie_push n core image tail next [] at end r stand lie here =
-    (subst (λ (t : Tail). IsBetween tail next t.place (t.place + len_of r)) (sym stand) here, tt)
+    (subst (λ (t : Tail). IsLive tail next t.place (t.place + len_of r)) (sym stand) here, tt)
 lie_push n core image tail next (first ∷ rs) at end r stand lie here = (lie.0, lie_push n core image tail next rs (behind n at first) end r stand.1 lie.1 here)
 
-pub lie_new : (n : Numbers) (core : ℕ) (image : List ℕ) (tail next : ℕ) (records : List Record) (at end : Tail) (r : Record) → Goes n tail end.place (len_of r) next → Stand n core image at records end → LieBetween n tail end.place at records → LieBetween n tail next at (records ++ r ∷ [])
+pub lie_new : (n : Numbers) (core : ℕ) (image : List ℕ) (tail next : ℕ) (records : List Record) (at end : Tail) (r : Record) → Goes n tail end.place (len_of r) next → HasRecords n core image at records end → AllLive n tail end.place at records → AllLive n tail next at (records ++ r ∷ [])
 lie_new n core image tail next records at end r goes stand lie =
     lie_push n core image tail next records at end r stand (lie_more n tail end.place (len_of r) next at records goes lie) (new_between n tail end.place (len_of r) next goes)
 
 -- ---- what the table of room says
 
-numbers : (n : Numbers) (core : ℕ) (image : List ℕ) (records : List Record) (tail end : Tail) → Stand n core image tail records end → end.number ≡ tail.number + length records
+numbers : (n : Numbers) (core : ℕ) (image : List ℕ) (records : List Record) (tail end : Tail) → HasRecords n core image tail records end → end.number ≡ tail.number + length records
 numbers n core image [] tail end stand = let e : end.number ≡ tail.number = ap (λ (t : Tail). t.number) (sym stand) in omega (arith, e)
 numbers n core image (r ∷ rs) tail end stand = let rest = numbers n core image rs (behind n tail r) end stand.1 in omega (arith, rest)
 
@@ -164,7 +164,7 @@ enough need free none =
           cc
     ]
 
-pub has_room : (n : Numbers) (core : ℕ) (image : List ℕ) (records : List Record) (tail end : Tail) → Stand n core image tail records end → fullness n tail end ≡ None → HasRoom n tail.place end.place
+pub has_room : (n : Numbers) (core : ℕ) (image : List ℕ) (records : List Record) (tail end : Tail) → HasRecords n core image tail records end → fullness n tail end ≡ None → HasRoom n tail.place end.place
 has_room n core image [] tail end stand none =
     let same : tail.place ≡ end.place = ap (λ (t : Tail). t.place) stand in
     record { behind_tail = λ lt zero. absurd (omega arith); before_tail = λ lt. absurd (omega arith) }

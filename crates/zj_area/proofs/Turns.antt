@@ -1,5 +1,5 @@
 -- Reading record after record: what is known so far, and what is left to read.
-use Rattle.std.proofs.Common.{◌≡◌, ℕ, ◌+◌, ◌-◌, ◌^◌, ◌<◌, ◌≤◌, ◌==◌, List, [], ◌∷◌, ◌++◌, length, refl, ap, subst, arith, inl, inr, ◌⊎◌}
+use Rattle.std.proofs.Common.{◌≡◌, ℕ, ◌+◌, ◌-◌, ◌*◌, ◌^◌, ◌<◌, ◌≤◌, ◌==◌, List, [], ◌∷◌, ◌++◌, length, refl, ap, subst, arith, inl, inr, ◌⊎◌}
 use Rattle.std.proofs.lemmas.Bool.{cases_eq, cases_lt}
 use Rattle.std.proofs.lemmas.Bool.Decides.{nat_tests}
 use Rattle.std.proofs.lemmas.Grind.{common_steps}
@@ -9,9 +9,9 @@ use Rattle.zj_block.specs.Sizes.{Numbers, max_record}
 use Rattle.zj_block.specs.declared.numbers.Tail.{Tail}
 use Rattle.zj_dev.specs.Disk.{DiskView, IsDisk, OnlyReads}
 use Rattle.zj_tx.specs.Record.{Record}
-use Rattle.zj_area.specs.Ring.{IsPlace, Stand, StandsAt, behind, len_of, next_place}
+use Rattle.zj_area.specs.Ring.{IsPlace, HasRecords, HasRecordAt, behind, len_of, next_place}
 use Rattle.zj_area.specs.Reading.{WasRead, WasSeen, first_after}
-use Rattle.zj_area.proofs.Calls.{only_reads_trans}
+use Rattle.zj_dev.proofs.DiskLaws.{reads_trans}
 use Rattle.zj_area.proofs.Parts.{if_both}
 use Rattle.zj_area.proofs.Readings.{stand_more}
 
@@ -19,11 +19,13 @@ use Rattle.zj_area.proofs.Readings.{stand_more}
 pub record SoFar (n : Numbers) (core : ℕ) (old now : DiskView) (tail due : Tail) (found : List Record) (first : Option ℕ) : Type 0 where
   pub left : OnlyReads old now
   pub is_disk : IsDisk now
-  pub stand : IfSome old.bytes (λ image. Stand n core image tail found due)
+  pub stand : IfSome old.bytes (λ image. HasRecords n core image tail found due)
   pub place : IsPlace n due.place
   pub many : due.number ≡ tail.number + length found
   pub few : length found + old.calls ≤ now.calls
-  pub early : length found ≤ 2 ^ 63
+  pub begins : tail.number ≤ 2 ^ 62 + old.calls
+  pub early : due.number ≤ 2 ^ 62 + 2 ^ 63
+  pub calls : now.calls ≤ old.calls + 2 * length found
   pub seen : IfSome first (WasSeen n core old due)
 
 -- how far it is to the end of the area, and once more round it where the record at the start wasn't read
@@ -92,7 +94,7 @@ goes_on n due len None long within once =
     ]
 
 -- what was seen at the start, after the record that is due
-pub seen_more : (n : Numbers) (core : ℕ) (old : DiskView) (due next : Tail) (first : Option ℕ) (r : Record) → next.number ≡ due.number + 1 → IfSome first (WasSeen n core old due) → IfSome old.bytes (λ image. StandsAt n core image due r)
+pub seen_more : (n : Numbers) (core : ℕ) (old : DiskView) (due next : Tail) (first : Option ℕ) (r : Record) → next.number ≡ due.number + 1 → IfSome first (WasSeen n core old due) → IfSome old.bytes (λ image. HasRecordAt n core image due r)
     → IfSome (first_after first due) (WasSeen n core old next)
 seen_more n core old due next first r on seen stood =
     elim (cases_eq due.place 0) [
@@ -102,12 +104,12 @@ seen_more n core old due next first r on seen stood =
       | inr other ↦ rw (after_some first due (omega arith)) (later first seen)
     ]
   where
-    at_start : (image : List ℕ) → due.place ≡ 0 → StandsAt n core image due r → WasRead n core due.number image
+    at_start : (image : List ℕ) → due.place ≡ 0 → HasRecordAt n core image due r → WasRead n core due.number image
     at_start image start stood =
         let there : due ≡ record { place = 0; number = due.number } = ap (λ (p : ℕ). let t : Tail = record { place = p; number = due.number } in t) start in
-        record { first = r; stood = subst (λ (t : Tail). StandsAt n core image t r) there stood }
+        record { first = r; stood = subst (λ (t : Tail). HasRecordAt n core image t r) there stood }
 
-    told : (o : Option (List ℕ)) → due.place ≡ 0 → IfSome o (λ image. StandsAt n core image due r) → IfSome o (WasRead n core due.number)
+    told : (o : Option (List ℕ)) → due.place ≡ 0 → IfSome o (λ image. HasRecordAt n core image due r) → IfSome o (WasRead n core due.number)
     told None start stood = tt
     told (Some image) start stood = at_start image start stood
 
@@ -117,18 +119,20 @@ seen_more n core old due next first r on seen stood =
 
 -- one turn more
 pub turn : (n : Numbers) (core : ℕ) (old now new : DiskView) (tail due : Tail) (found : List Record) (first : Option ℕ) (r : Record) → SoFar n core old now tail due found first
-    → OnlyReads now new → IsDisk new → now.calls < 2 ^ 63 → now.calls + 1 ≤ new.calls → IfSome now.bytes (λ image. StandsAt n core image due r) → IsPlace n (next_place n (due.place + len_of r))
+    → OnlyReads now new → IsDisk new → now.calls < 2 ^ 63 → now.calls + 1 ≤ new.calls → new.calls ≤ now.calls + 2 → IfSome now.bytes (λ image. HasRecordAt n core image due r) → IsPlace n (next_place n (due.place + len_of r))
     → SoFar n core old new tail (behind n due r) (found ++ r ∷ []) (first_after first due)
-turn n core old now new tail due found first r so_far reads is early counted stood place =
-    let there : IfSome old.bytes (λ image. StandsAt n core image due r) = subst (λ (o : Option (List ℕ)). IfSome o (λ image. StandsAt n core image due r)) so_far.left.bytes stood in
+turn n core old now new tail due found first r so_far reads is early counted most stood place =
+    let there : IfSome old.bytes (λ image. HasRecordAt n core image due r) = subst (λ (o : Option (List ℕ)). IfSome o (λ image. HasRecordAt n core image due r)) so_far.left.bytes stood in
     let push = length_push found r in
     record {
-      left = only_reads_trans old now new so_far.left reads;
+      left = reads_trans old now new so_far.left reads;
       is_disk = is;
       stand = if_both old.bytes old.bytes refl (λ image stand here. stand_more n core image found tail due r stand here) so_far.stand there;
       place = place;
       many = omega (arith, so_far.many, push);
       few = omega (arith, so_far.few, push, counted);
-      early = omega (arith, so_far.few, push, early);
+      begins = so_far.begins;
+      early = omega (arith, so_far.few, so_far.many, so_far.begins, early);
+      calls = omega (arith, so_far.calls, push, most);
       seen = seen_more n core old due (behind n due r) first r refl so_far.seen there;
     }

@@ -4,7 +4,7 @@ use Rattle.zj_block.specs.Sizes.{IsInLimits, Numbers, max_record}
 use Rattle.zj_block.specs.declared.numbers.Tail.{Tail}
 use Rattle.zj_dev.specs.Disk.{DiskView, IsDisk, IsSettled, replaced}
 use Rattle.zj_tx.specs.Record.{Record}
-use Rattle.zj_area.specs.Ring.{Holds, IsPlace, LieBetween}
+use Rattle.zj_area.specs.Ring.{Holds, IsPlace, AllLive}
 use Rattle.zj_area.specs.declared.area.Full.{Full}
 
 -- A journal: its device, the sizes of the image, its core, where its records begin and where the next one is due, whether
@@ -42,9 +42,10 @@ pub record IsArea (disk : DiskView) (n : Numbers) (core : ℕ) (tail end : Tail)
   pub is_disk : IsDisk disk
   pub limits : IsInLimits n
   pub size : disk.size ≡ n.area
-  pub one_core : core < n.cores
+  pub core_within : core < n.cores
   pub tail_place : IsPlace n tail.place
-  pub tail_number : tail.number < 2 ^ 62
+  pub tail_number : tail.number ≤ 2 ^ 62 + disk.calls
+  pub tail_early : tail.number ≤ 2 ^ 62 + 2 ^ 63
   pub end_place : IsPlace n end.place
   pub end_number : end.number ≤ 2 ^ 62 + disk.calls
   pub end_early : end.number ≤ 2 ^ 62 + 2 ^ 63
@@ -54,7 +55,7 @@ pub record IsArea (disk : DiskView) (n : Numbers) (core : ℕ) (tail end : Tail)
 -- These bytes hold these records, each of which lies between the tail and the end.
 pub record IsJournal (n : Numbers) (core : ℕ) (image : List ℕ) (tail : Tail) (records : List Record) (end : Tail) : Type 0 where
   pub holds : Holds n core image tail records end
-  pub between : LieBetween n tail.place end.place tail records
+  pub between : AllLive n tail.place end.place tail records
 
 -- What holds between two commits: nothing is pending on the device, and its bytes hold these records, up to a gate that is
 -- not open.

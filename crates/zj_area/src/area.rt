@@ -1,23 +1,22 @@
 //! An area: one core's journal on a device that it owns.
 
-ghost use Rattle.std.specs.Prelude.{◌≡◌, ◌<◌, ◌≤◌, ◌+◌, ◌^◌, ◌++◌, [], ◌∷◌, List, None, Some, IsSome, IfOk, IfErr, IfSome, OnOk, OnErr, MatchResult, true, false, is_some, length};
+ghost use Rattle.std.specs.Prelude.{◌≡◌, ◌<◌, ◌≤◌, ◌+◌, ◌*◌, ◌^◌, ◌++◌, [], ◌∷◌, List, None, Some, IsSome, IfOk, IfErr, IfSome, OnOk, OnErr, MatchResult, true, false, is_some, length};
 ghost use Rattle.zj_dev.specs.Fault.{Rose};
-ghost use Rattle.zj_dev.specs.Disk.{Continues, EachImageSince, IsDisk, IsSettled, OnlyReads};
+ghost use Rattle.zj_dev.specs.Disk.{Continues, IsDisk, IsSettled, OnlyReads, StaysSince};
 ghost use Rattle.zj_tx.specs.Record.{Accepts, Record};
 ghost use Rattle.zj_area.specs.Ring.{IsPlace, behind};
 ghost use Rattle.zj_area.specs.Journal.{IsAtRest, IsLaid, fullness, journal_of, lacking, opened};
-ghost use Rattle.zj_area.specs.Commit.{BeginsQuietly, LaysQuietly, OpensGate};
-ghost use Rattle.zj_area.specs.Cause.{Finds, IsKnown, IsScanCause};
+ghost use Rattle.zj_area.specs.Commit.{KeepsRecords, OpensGate};
+ghost use Rattle.zj_area.specs.Cause.{Finds, IsKnown, IsScanCause, RestsEmpty};
 
 use crate::commit::{lay_record, open_at};
-use crate::device::sync;
-use crate::fault::{DiskFault, ScanFault};
+use crate::fault::ScanFault;
 use crate::reading::read_records;
 use crate::ring::behind;
 use std::alloc::{AllocError, Global};
 use std::marker::Model;
 use zj_block::{Sizes, Tail};
-use zj_dev::Disk;
+use zj_dev::{Disk, DiskFault, sync};
 use zj_tx::{Found, Sealed};
 
 /// What a longest record needs, and what is free, in bytes.
@@ -29,7 +28,7 @@ pub struct Full {
     pub free: u64,
 }
 
-/// A device that was not made an area for want of memory.
+/// A device that was not made an area, since there was no memory.
 #[derive(Debug, Drop)]
 pub struct Returned<D> {
     /// The device, given back.
@@ -95,7 +94,7 @@ impl<D: Disk> Area<D> {
     /// The journal of a core of the image, over a device of `sizes.area()` bytes. The tail is where its
     /// records begin. The area's one buffer is taken here; no call of the device is made.
     ///
-    /// The error is want of memory, and gives the device back.
+    /// The error is that there was no memory, and gives the device back.
     pub fn open(
         alloc: Global,
         d: D,
@@ -176,16 +175,14 @@ impl<D: Disk> Area<D> {
     pub fn settle(&mut self) -> Result<(), DiskFault>
         ensures settled { OnOk result (IsSettled (D.view self.new.device)) }
         ensures bytes { (D.view self.new.device).bytes ≡ (D.view self.old.device).bytes }
-        ensures images { EachImageSince (D.view self.old.device).calls (D.view self.new.device) (λ image. (D.view self.old.device).may_leave (D.view self.old.device).calls image ≡ true) }
+        ensures images { StaysSince (D.view self.old.device) (D.view self.new.device) }
+        ensures calls_at_most { (D.view self.new.device).calls ≤ (D.view self.old.device).calls + 1 }
         ensures continues { Continues (D.view self.old.device) (D.view self.new.device) }
         ensures same { self.new ≡ record self.old { device = self.new.device } }
         ensures is_disk { IsDisk (D.view self.new.device) }
         ensures cause { OnErr result (Rose (D.view self.old.device).faults (D.view self.new.device).faults) }
     {
-        match sync(&mut self.device) {
-            Ok(()) => Ok(()),
-            Err(_) => Err(DiskFault),
-        }
+        sync(&mut self.device)
     }
 
     /// Reads the records from the tail on, up to the first gate that is not open. It writes nothing. Where
@@ -199,8 +196,10 @@ impl<D: Disk> Area<D> {
         ensures ready { OnOk result (self.new.ready ≡ true) }
         ensures end { OnOk result (IsKnown (journal_of D.view self.old) → self.new.end ≡ self.old.end) }
         ensures err { OnErr result (self.new ≡ record self.old { device = self.new.device }) }
-        ensures left { OnlyReads (D.view self.old.device) (D.view self.new.device) }
+        ensures read_only { OnlyReads (D.view self.old.device) (D.view self.new.device) }
         ensures is_disk { IsDisk (D.view self.new.device) }
+        ensures at_rest { IfOk result (RestsEmpty (journal_of D.view self.old) (journal_of D.view self.new)) }
+        ensures calls_at_most { IfOk result (λ found. (D.view self.new.device).calls ≤ (D.view self.old.device).calls + 2 * length found + 1) }
         ensures cause { IfErr result (IsScanCause (journal_of D.view self.old) (D.view self.new.device)) }
     {
         let (found, end) = read_records(
@@ -244,9 +243,8 @@ impl<D: Disk> Area<D> {
     /// Lays the record of a transaction behind the last one, its gate closed: three calls of the device.
     ///
     /// Where the area is at rest, whatever a crash leaves, at any moment of it, holds the records before. An
-    /// area is at rest when nothing is pending and its records lie between the tail and the end, as those do
-    /// that commits laid one behind the other. A scan doesn't test it: bytes of another origin may be read as
-    /// records that overlap.
+    /// area is at rest once a scan found no record on a settled device, and after each commit from then on. No
+    /// other scan tells it: bytes of another origin may be read as records that overlap.
     ///
     /// After `DiskFault` the area has failed.
     pub fn lay(&mut self, sealed: &Sealed) -> Result<(), DiskFault>
@@ -257,11 +255,11 @@ impl<D: Disk> Area<D> {
         requires accepted { Accepts self.old.sizes self.old.core self.old.end.number sealed.now }
         ensures laid { OnOk result (self.new ≡ record self.old { device = self.new.device; laid = Some (behind self.old.sizes self.old.end sealed.now) }) }
         ensures record { OnOk result ((records : List Record) → IsAtRest (journal_of D.view self.old) records → IsLaid (journal_of D.view self.new) records sealed.now (behind self.old.sizes self.old.end sealed.now)) }
-        ensures moments { LaysQuietly (journal_of D.view self.old) (journal_of D.view self.new) }
+        ensures moments { KeepsRecords (journal_of D.view self.old) (journal_of D.view self.new) }
         ensures failed { OnErr result (self.new ≡ record self.old { device = self.new.device; failed = true }) }
         ensures continues { Continues (D.view self.old.device) (D.view self.new.device) }
-        ensures three { OnOk result ((D.view self.new.device).calls ≡ (D.view self.old.device).calls + 3) }
-        ensures no_more { (D.view self.new.device).calls ≤ (D.view self.old.device).calls + 3 }
+        ensures calls { OnOk result ((D.view self.new.device).calls ≡ (D.view self.old.device).calls + 3) }
+        ensures calls_at_most { (D.view self.new.device).calls ≤ (D.view self.old.device).calls + 3 }
         ensures is_disk { IsDisk (D.view self.new.device) }
         ensures cause { OnErr result (Rose (D.view self.old.device).faults (D.view self.new.device).faults) }
     {
@@ -279,9 +277,9 @@ impl<D: Disk> Area<D> {
                 self.state = State::Laid(next);
                 Ok(())
             }
-            Err(_) => {
+            Err(fault) => {
                 self.state = State::Failed;
-                Err(DiskFault)
+                Err(fault)
             }
         }
     }
@@ -297,11 +295,10 @@ impl<D: Disk> Area<D> {
         ensures opened { OnOk result (IfSome self.old.laid (λ next. self.new ≡ record self.old { device = self.new.device; end = next; laid = None })) }
         ensures at_rest { OnOk result (IfSome self.old.laid (λ next. (records : List Record) (r : Record) → IsLaid (journal_of D.view self.old) records r next → IsAtRest (journal_of D.view self.new) (records ++ r ∷ []))) }
         ensures moments { IfSome self.old.laid (OpensGate (journal_of D.view self.old) (journal_of D.view self.new)) }
-        ensures begins { IfSome self.old.laid (BeginsQuietly (journal_of D.view self.old) (journal_of D.view self.new)) }
         ensures failed { OnErr result (self.new ≡ record self.old { device = self.new.device; failed = true; laid = None }) }
         ensures continues { Continues (D.view self.old.device) (D.view self.new.device) }
-        ensures two { OnOk result ((D.view self.new.device).calls ≡ (D.view self.old.device).calls + 2) }
-        ensures no_more { (D.view self.new.device).calls ≤ (D.view self.old.device).calls + 2 }
+        ensures calls { OnOk result ((D.view self.new.device).calls ≡ (D.view self.old.device).calls + 2) }
+        ensures calls_at_most { (D.view self.new.device).calls ≤ (D.view self.old.device).calls + 2 }
         ensures is_disk { IsDisk (D.view self.new.device) }
         ensures cause { OnErr result (Rose (D.view self.old.device).faults (D.view self.new.device).faults) }
     {
@@ -313,9 +310,9 @@ impl<D: Disk> Area<D> {
                 self.state = State::Ready;
                 Ok(number)
             }
-            Err(_) => {
+            Err(fault) => {
                 self.state = State::Failed;
-                Err(DiskFault)
+                Err(fault)
             }
         }
     }

@@ -6,8 +6,7 @@ ghost use Rattle.zj_dev.specs.Disk.{Continues, EachImageSince, IsDisk, IsSettled
 ghost use Rattle.zj_tx.specs.Record.{record_bytes};
 ghost use Rattle.zj_area.specs.Moments.{TornByGate, TornByLay};
 
-use crate::device::{sync, write_at};
-use zj_dev::{Disk, DiskFailed};
+use zj_dev::{Disk, DiskFault, sync, write_at};
 use zj_tx::laws::gate_is_open;
 use zj_tx::{Sealed, encode};
 
@@ -19,7 +18,7 @@ const CLOSED: u8 = 0;
 
 /// Lays a record at a place: all of it but its gate, and then the closed gate of the record that will
 /// follow it. Both outlast a crash once it answers Ok.
-pub fn lay_at<D: Disk>(d: &mut D, place: u64, spelled: &[u8], next: u64) -> Result<(), DiskFailed>
+pub fn lay_at<D: Disk>(d: &mut D, place: u64, spelled: &[u8], next: u64) -> Result<(), DiskFault>
     requires is_disk { IsDisk (D.view d.old) }
     requires small { place < 2 ^ 63 }
     requires some { 1 ≤ length spelled.now }
@@ -30,8 +29,8 @@ pub fn lay_at<D: Disk>(d: &mut D, place: u64, spelled: &[u8], next: u64) -> Resu
     ensures moments { EachImageSince (D.view d.old).calls (D.view d.new) (TornByLay place (length spelled.now) next (D.view d.old)) }
     ensures continues { Continues (D.view d.old) (D.view d.new) }
     ensures is_disk { IsDisk (D.view d.new) }
-    ensures three { OnOk result ((D.view d.new).calls ≡ (D.view d.old).calls + 3) }
-    ensures no_more { (D.view d.new).calls ≤ (D.view d.old).calls + 3 }
+    ensures calls { OnOk result ((D.view d.new).calls ≡ (D.view d.old).calls + 3) }
+    ensures calls_at_most { (D.view d.new).calls ≤ (D.view d.old).calls + 3 }
     ensures cause { OnErr result (Rose (D.view d.old).faults (D.view d.new).faults) }
 {
     write_at(d, place + 1, &spelled[1..])?;
@@ -46,7 +45,7 @@ pub fn lay_record<D: Disk>(
     sealed: &Sealed,
     place: u64,
     next: u64,
-) -> Result<(), DiskFailed>
+) -> Result<(), DiskFault>
     requires is_disk { IsDisk (D.view d.old) }
     requires small { place < 2 ^ 63 }
     requires room { length (record_bytes sealed.now) ≤ length buffer.old }
@@ -58,8 +57,8 @@ pub fn lay_record<D: Disk>(
     ensures continues { Continues (D.view d.old) (D.view d.new) }
     ensures is_disk { IsDisk (D.view d.new) }
     ensures gate { slice_index (record_bytes sealed.now) 0 ≡ 1 }
-    ensures three { OnOk result ((D.view d.new).calls ≡ (D.view d.old).calls + 3) }
-    ensures no_more { (D.view d.new).calls ≤ (D.view d.old).calls + 3 }
+    ensures calls { OnOk result ((D.view d.new).calls ≡ (D.view d.old).calls + 3) }
+    ensures calls_at_most { (D.view d.new).calls ≤ (D.view d.old).calls + 3 }
     ensures cause { OnErr result (Rose (D.view d.old).faults (D.view d.new).faults) }
 {
     gate_is_open();
@@ -69,18 +68,17 @@ pub fn lay_record<D: Disk>(
 }
 
 /// Opens the gate at a place. It outlasts a crash once it answers Ok.
-pub fn open_at<D: Disk>(d: &mut D, place: u64) -> Result<(), DiskFailed>
+pub fn open_at<D: Disk>(d: &mut D, place: u64) -> Result<(), DiskFault>
     requires is_disk { IsDisk (D.view d.old) }
     requires within { place + 1 ≤ (D.view d.old).size }
     ensures bytes { OnOk result ((D.view d.new).bytes ≡ option_map (λ bytes. replaced bytes place (1 ∷ [])) (D.view d.old).bytes) }
     ensures settled { OnOk result (IsSettled (D.view d.new)) }
     ensures moments { EachImageSince (D.view d.old).calls (D.view d.new) (TornByGate place (D.view d.old)) }
-    ensures first { (image : List ℕ) → (D.view d.old).calls < (D.view d.new).calls → (D.view d.new).may_leave (D.view d.old).calls image ≡ true → (D.view d.old).may_leave (D.view d.old).calls image ≡ true }
     ensures continues { Continues (D.view d.old) (D.view d.new) }
     ensures is_disk { IsDisk (D.view d.new) }
     ensures counted { OnOk result (((D.view d.old).calls < 2 ^ 63) × ((D.view d.old).calls + 1 ≤ (D.view d.new).calls)) }
-    ensures two { OnOk result ((D.view d.new).calls ≡ (D.view d.old).calls + 2) }
-    ensures no_more { (D.view d.new).calls ≤ (D.view d.old).calls + 2 }
+    ensures calls { OnOk result ((D.view d.new).calls ≡ (D.view d.old).calls + 2) }
+    ensures calls_at_most { (D.view d.new).calls ≤ (D.view d.old).calls + 2 }
     ensures cause { OnErr result (Rose (D.view d.old).faults (D.view d.new).faults) }
 {
     write_at(d, place, &[OPEN])?;

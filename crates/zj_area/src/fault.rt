@@ -1,16 +1,11 @@
-//! Why a journal was not read or written.
+//! Why a journal was not read.
 
 ghost use Rattle.std.specs.Prelude.{◌≡◌};
 ghost use Rattle.zj_area.specs.declared.fault.ScanFault.TheVariants as faults;
 
 use std::alloc::AllocError;
 use thiserror::Error;
-use zj_dev::DiskFailed;
-
-/// The device failed, and its count of faults rose.
-#[derive(Clone, Copy, Debug, PartialEq, Eq, Error)]
-#[error("disk")]
-pub struct DiskFault;
+use zj_dev::DiskFault;
 
 /// Why a journal was not read.
 #[derive(Clone, Copy, Debug, PartialEq, Eq, Error)]
@@ -41,10 +36,10 @@ impl From<AllocError> for ScanFault {
     }
 }
 
-impl From<DiskFailed> for ScanFault {
+impl From<DiskFault> for ScanFault {
     ghost from_gives = { λ _ fault. fault ≡ faults.DiskFault };
 
-    fn from(_error: DiskFailed) -> ScanFault {
+    fn from(_error: DiskFault) -> ScanFault {
         ScanFault::DiskFault
     }
 }

@@ -4,7 +4,7 @@ ghost use Rattle.std.specs.Prelude.{◌≡◌, true, IfOk, IfErr, OnOk, OnErr};
 ghost use Rattle.zj_dev.specs.Disk.{IsDisk, OnlyReads};
 ghost use Rattle.zj_area.specs.Ring.{IsPlace};
 ghost use Rattle.zj_area.specs.Journal.{JournalView, journal_of};
-ghost use Rattle.zj_area.specs.Cause.{Finds, IsKnown, IsScanCause};
+ghost use Rattle.zj_area.specs.Cause.{Finds, IsKnown, IsScanCause, RestsEmpty};
 
 use crate::area::Area;
 use crate::fault::ScanFault;
@@ -28,8 +28,9 @@ pub trait Journal {
         ensures ready { OnOk result ((journal self.new).ready ≡ true) }
         ensures end { OnOk result (IsKnown (journal self.old) → (journal self.new).end ≡ (journal self.old).end) }
         ensures err { OnErr result (journal self.new ≡ record (journal self.old) { disk = (journal self.new).disk }) }
-        ensures left { OnlyReads (journal self.old).disk (journal self.new).disk }
+        ensures read_only { OnlyReads (journal self.old).disk (journal self.new).disk }
         ensures is_disk { IsDisk (journal self.new).disk }
+        ensures at_rest { IfOk result (RestsEmpty (journal self.old) (journal self.new)) }
         ensures cause { IfErr result (IsScanCause (journal self.old) (journal self.new).disk) };
 
     /// Where the next record is due, once the journal was read.

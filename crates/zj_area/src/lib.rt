@@ -14,8 +14,9 @@ mod reading;
 mod ring;
 
 pub use area::{Area, Full, Returned};
-pub use fault::{DiskFault, ScanFault};
+pub use fault::ScanFault;
 pub use journal::Journal;
+pub use zj_dev::DiskFault;
 
 #[cfg(test)]
 mod tests;

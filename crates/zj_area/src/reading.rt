@@ -5,8 +5,8 @@ ghost use Rattle.zj_block.specs.Sizes.{IsInLimits, max_record};
 ghost use Rattle.zj_dev.specs.Fault.{Rose};
 ghost use Rattle.zj_dev.specs.Disk.{IsDisk, OnlyReads};
 ghost use Rattle.zj_tx.specs.Record.{Accepts};
-ghost use Rattle.zj_area.specs.Ring.{Holds, IsOpenAt, IsPlace, StandsAt};
-ghost use Rattle.zj_area.specs.Reading.{FitsBehind, IsReadCause, IsRefusal, TellsLength, WasSeen, fault_placed, first_after};
+ghost use Rattle.zj_area.specs.Ring.{Holds, IsOpenAt, IsPlace, HasRecordAt};
+ghost use Rattle.zj_area.specs.Reading.{FitsBehind, IsRecordsCause, IsRecordCause, TellsLength, WasSeen, fault_placed, first_after};
 
 use crate::commit::OPEN;
 use crate::device::read_at;
@@ -14,13 +14,14 @@ use crate::fault::ScanFault;
 use crate::ring::behind;
 use std::alloc::Global;
 use zj_block::{Sizes, Tail};
-use zj_dev::{Disk, DiskFailed};
+use zj_dev::{Disk, DiskFault};
 use zj_tx::laws::{gate_is_open, one_spelling, spelling_length};
 use zj_tx::{Found, RecordFault, Sealed, decode, len_from_head};
 
 /// Where the number of a record stands in it.
 const NUMBER_AT: u64 = 8;
 
+#[tactic(auto, using(zj_dev::proofs::DiskLaws::reads_trans))]
 /// Reads the record at a place into the buffer, if the gate there is open, and answers how many bytes it
 /// has. First its head, which tells how many there are, and then the rest, so that no byte is read twice.
 fn read_bytes<D: Disk>(
@@ -28,7 +29,7 @@ fn read_bytes<D: Disk>(
     buffer: &mut [u8],
     sizes: &Sizes,
     place: u64,
-) -> Result<Option<usize>, DiskFailed>
+) -> Result<Option<usize>, DiskFault>
     requires is_disk { IsDisk (D.view d.old) }
     requires size { (D.view d.old).size ≡ sizes.now.area }
     requires place { IsPlace sizes.now place }
@@ -38,9 +39,11 @@ fn read_bytes<D: Disk>(
     ensures bytes { IfOk result (λ found. IfSome found (λ len. IfSome (D.view d.old).bytes (λ image. take len buffer.new ≡ slice_range image place (place + len)))) }
     ensures len { IfOk result (λ found. IfSome found (λ len. TellsLength sizes.now buffer.new len)) }
     ensures most { IfOk result (λ found. IfSome found (λ len. (24 ≤ len) × (len ≤ max_record sizes.now))) }
-    ensures left { OnlyReads (D.view d.old) (D.view d.new) }
+    ensures read_only { OnlyReads (D.view d.old) (D.view d.new) }
     ensures is_disk { IsDisk (D.view d.new) }
     ensures counted { IfOk result (λ found. OnSome found (((D.view d.old).calls < 2 ^ 63) × ((D.view d.old).calls + 1 ≤ (D.view d.new).calls))) }
+    ensures calls_at_most { (D.view d.new).calls ≤ (D.view d.old).calls + 2 }
+    ensures calls_of_none { IfOk result (λ found. IfNone found ((D.view d.new).calls ≤ (D.view d.old).calls + 1)) }
     ensures cause { OnErr result (Rose (D.view d.old).faults (D.view d.new).faults) }
 {
     let head = 24 + 8 * sizes.cores() as usize;
@@ -68,13 +71,15 @@ fn read_record<D: Disk>(
     requires core { core < sizes.now.cores }
     requires place { IsPlace sizes.now due.place }
     requires room { length buffer.old ≡ max_record sizes.now }
-    ensures found { IfOk result (λ found. IfSome found (λ r. IfSome (D.view d.old).bytes (λ image. StandsAt sizes.now core image due r))) }
+    ensures found { IfOk result (λ found. IfSome found (λ r. IfSome (D.view d.old).bytes (λ image. HasRecordAt sizes.now core image due r))) }
     ensures accepted { IfOk result (λ found. IfSome found (Accepts sizes.now core due.number)) }
     ensures closed { IfOk result (λ found. IfNone found (IfSome (D.view d.old).bytes (λ image. IsOpenAt image due.place → ⊥))) }
-    ensures refused { IfErr result (IsRefusal sizes.now core (D.view d.old) (D.view d.new) due) }
-    ensures left { OnlyReads (D.view d.old) (D.view d.new) }
+    ensures refused { IfErr result (IsRecordCause sizes.now core (D.view d.old) (D.view d.new) due) }
+    ensures read_only { OnlyReads (D.view d.old) (D.view d.new) }
     ensures is_disk { IsDisk (D.view d.new) }
     ensures counted { IfOk result (λ found. OnSome found (((D.view d.old).calls < 2 ^ 63) × ((D.view d.old).calls + 1 ≤ (D.view d.new).calls))) }
+    ensures calls_at_most { (D.view d.new).calls ≤ (D.view d.old).calls + 2 }
+    ensures calls_of_none { IfOk result (λ found. IfNone found ((D.view d.new).calls ≤ (D.view d.old).calls + 1)) }
 {
     spelling_length();
     let Some(_) = read_bytes(d, buffer, sizes, due.place)? else {
@@ -123,13 +128,15 @@ fn next_record<D: Disk>(
     requires place { IsPlace sizes.now due.place }
     requires room { length buffer.old ≡ max_record sizes.now }
     requires seen { IfSome first (λ number. WasSeen sizes.now core (D.view d.old) due number) }
-    ensures found { IfOk result (λ found. IfSome found (λ r. IfSome (D.view d.old).bytes (λ image. StandsAt sizes.now core image due r))) }
+    ensures found { IfOk result (λ found. IfSome found (λ r. IfSome (D.view d.old).bytes (λ image. HasRecordAt sizes.now core image due r))) }
     ensures accepted { IfOk result (λ found. IfSome found (Accepts sizes.now core due.number)) }
     ensures closed { IfOk result (λ found. IfNone found (IfSome (D.view d.old).bytes (λ image. IsOpenAt image due.place → ⊥))) }
-    ensures refused { IfErr result (IsRefusal sizes.now core (D.view d.old) (D.view d.new) due) }
-    ensures left { OnlyReads (D.view d.old) (D.view d.new) }
+    ensures refused { IfErr result (IsRecordCause sizes.now core (D.view d.old) (D.view d.new) due) }
+    ensures read_only { OnlyReads (D.view d.old) (D.view d.new) }
     ensures is_disk { IsDisk (D.view d.new) }
     ensures counted { IfOk result (λ found. OnSome found (((D.view d.old).calls < 2 ^ 63) × ((D.view d.old).calls + 1 ≤ (D.view d.new).calls))) }
+    ensures calls_at_most { (D.view d.new).calls ≤ (D.view d.old).calls + 2 }
+    ensures calls_of_none { IfOk result (λ found. IfNone found ((D.view d.new).calls ≤ (D.view d.old).calls + 1)) }
     ensures once { OnOk result (IfSome first (λ number. 0 < due.place)) }
 {
     one_spelling();
@@ -174,16 +181,18 @@ pub fn read_records<D: Disk>(
     requires size { (D.view d.old).size ≡ sizes.now.area }
     requires core { core < sizes.now.cores }
     requires place { IsPlace sizes.now tail.place }
-    requires number { tail.number < 2 ^ 62 }
+    requires number { tail.number ≤ 2 ^ 62 + (D.view d.old).calls }
+    requires early { tail.number ≤ 2 ^ 62 + 2 ^ 63 }
     requires room { length buffer.old ≡ max_record sizes.now }
     ensures holds { IfOk result (λ read. IfSome (D.view d.old).bytes (λ image. Holds sizes.now core image tail read.0 read.1)) }
     ensures place { IfOk result (λ read. IsPlace sizes.now read.1.place) }
     ensures many { IfOk result (λ read. read.1.number ≡ tail.number + length read.0) }
     ensures few { IfOk result (λ read. length read.0 + (D.view d.old).calls ≤ (D.view d.new).calls) }
-    ensures early { IfOk result (λ read. length read.0 ≤ 2 ^ 63) }
-    ensures left { OnlyReads (D.view d.old) (D.view d.new) }
+    ensures early { IfOk result (λ read. read.1.number ≤ 2 ^ 62 + 2 ^ 63) }
+    ensures calls_at_most { IfOk result (λ read. (D.view d.new).calls ≤ (D.view d.old).calls + 2 * length read.0 + 1) }
+    ensures read_only { OnlyReads (D.view d.old) (D.view d.new) }
     ensures is_disk { IsDisk (D.view d.new) }
-    ensures cause { IfErr result (IsReadCause sizes.now core (D.view d.old) (D.view d.new) tail) }
+    ensures cause { IfErr result (IsRecordsCause sizes.now core (D.view d.old) (D.view d.new) tail) }
 {
     let mut found = Found::new(alloc);
     let mut due = tail;

@@ -23,7 +23,7 @@ returns-clause-bytes g c =
     let len = c.len_from_head-len.result in
     let head_len : length c.read_at.new.into ≡ h = c.read_at.auto.into ∙ length-take-le h c.args.buffer.now (omega arith) in
     let rest_len : length c.read_at-2.new.into ≡ len - h = c.read_at-2.auto.into ∙ part_len h (len - h) c.args.buffer.now c.read_at.new.into head_len (omega arith) in
-    if_both (g.D.Disk.view c.args.d.now).bytes (g.D.Disk.view c.read_at.new.d).bytes c.read_at.ensures.left.bytes
+    if_both (g.D.Disk.view c.args.d.now).bytes (g.D.Disk.view c.read_at.new.d).bytes c.read_at.ensures.read_only.bytes
     (λ image head rest. both_read image c.args.buffer.now c.read_at.new.into c.read_at-2.new.into c.args.place h len (omega arith) head_len rest_len head rest)
     c.in_ok-read_at.ensures.given c.in_ok-read_at-2.ensures.given
 

@@ -3,7 +3,7 @@ use Rattle.zj_block.specs.declared.numbers.Tail.{Tail}
 use Rattle.zj_area.specs.Journal.{JournalView, fullness}
 use Rattle.zj_area.specs.Ring.{len_of, next_place}
 use Rattle.zj_area.specs.State.{has_failed, is_ready}
-use Rattle.zj_area.proofs.Commits.{lays, lays_quietly}
+use Rattle.zj_area.proofs.Commits.{lays, keeps_records}
 use Rattle.zj_area.proofs.Room.{Goes, HasRoom, goes_to}
 use Rattle.zj_area.proofs.area.Area.lay.Goals as goal
 
@@ -19,7 +19,7 @@ returns-in-Ok-clause-moments g c =
     let goes : HasRoom i.sizes i.tail.place i.end.place → Goes i.sizes i.tail.place i.end.place (len_of r) c.behind-next.result.place =
     λ room. goes_to i.sizes i.tail.place i.end.place (len_of r) c.behind-next.result.place r refl here
     (omega (arith, c.record_len-len.ensures)) (omega (arith, c.record_len-len.ensures, accepted.cores, c.record_len-len.ensures.record.blocks)) (omega (arith, is.limits)) is.tail_place is.end_place room in
-    rw (← c.self.view_is) (lays_quietly j (len_of r) c.behind-next.result.place goes none is.is_disk is.size (g.D.Disk.view c.lay_record.new.d) c.lay_record.ensures.moments)
+    rw (← c.self.view_is) (keeps_records j (len_of r) c.behind-next.result.place goes none is.is_disk is.size (g.D.Disk.view c.lay_record.new.d) c.lay_record.ensures.moments)
 
 pub returns-in-Err-clause-moments : goal.returns-in-Err-clause-moments
 returns-in-Err-clause-moments g c =
@@ -33,7 +33,7 @@ returns-in-Err-clause-moments g c =
     let goes : HasRoom i.sizes i.tail.place i.end.place → Goes i.sizes i.tail.place i.end.place (len_of r) c.behind-next.result.place =
     λ room. goes_to i.sizes i.tail.place i.end.place (len_of r) c.behind-next.result.place r refl here
     (omega (arith, c.record_len-len.ensures)) (omega (arith, c.record_len-len.ensures, accepted.cores, c.record_len-len.ensures.record.blocks)) (omega (arith, is.limits)) is.tail_place is.end_place room in
-    rw (← c.self.view_is) (lays_quietly j (len_of r) c.behind-next.result.place goes none is.is_disk is.size (g.D.Disk.view c.lay_record.new.d) c.lay_record.ensures.moments)
+    rw (← c.self.view_is) (keeps_records j (len_of r) c.behind-next.result.place goes none is.is_disk is.size (g.D.Disk.view c.lay_record.new.d) c.lay_record.ensures.moments)
 
 pub returns-in-Ok-clause-record : goal.returns-in-Ok-clause-record
 returns-in-Ok-clause-record g c =
