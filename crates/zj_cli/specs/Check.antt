@@ -159,4 +159,3 @@ fault_of_home homes.NoMemory = faults.Memory
 -- an area that was just opened for a core of an image
 abbrev pub IsOpened : {D : Type 0} → Super → ℕ → AreaView D → Type 0
 IsOpened super core area = IfSome (slice_get super.tails core) (λ tail. area ≡ opened area.device super.sizes core tail)
-

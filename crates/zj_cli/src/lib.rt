@@ -14,8 +14,5 @@ mod tool;
 pub use status::{Fault, ImageFault, Status};
 pub use tool::zj_tool;
 
-
-
-
 #[cfg(test)]
 mod tests;

@@ -123,7 +123,10 @@ fn open_journal<H: Shelf>(
     prove!(core < cores);
     let d = match take_out(shelf, device, journal_name(core)) {
         Ok(d) => d,
-        Err(fault) => return Err(Refused { fault, device: None }),
+        Err(fault) => return Err(Refused {
+            fault,
+            device: None,
+        }),
     };
     let found = d.len();
     let expected = home.sizes().area();

@@ -38,16 +38,12 @@ pub fn zj_tool<H: Shelf, S: Source, K: Sink>(
 ) -> Status
     // What each command does, by the fault that it ends with.
     ensures words { (fault_of result ≡ Some faults.Words) ↔ ((command : Command) → Asks (map string_bytes words.now) command → ⊥) }
-    ensures play {
-        let before : Outside = record { left = S.left input.old; held = K.held out.old; names = H.names shelf.old; input_faults = S.faults input.old; output_faults = K.faults out.old; shelf_faults = H.faults shelf.old } in
+    ensures play { let before : Outside = record { left = S.left input.old; held = K.held out.old; names = H.names shelf.old; input_faults = S.faults input.old; output_faults = K.faults out.old; shelf_faults = H.faults shelf.old } in
         let after : Outside = record { left = S.left input.new; held = K.held out.new; names = H.names shelf.new; input_faults = S.faults input.new; output_faults = K.faults out.new; shelf_faults = H.faults shelf.new } in
-        Asks (map string_bytes words.now) commands.Play → PlayEnds 1 play_limits root_alone before after (fault_of result)
-    }
-    ensures check {
-        let before : Outside = record { left = S.left input.old; held = K.held out.old; names = H.names shelf.old; input_faults = S.faults input.old; output_faults = K.faults out.old; shelf_faults = H.faults shelf.old } in
+        Asks (map string_bytes words.now) commands.Play → PlayEnds 1 play_limits root_alone before after (fault_of result) }
+    ensures check { let before : Outside = record { left = S.left input.old; held = K.held out.old; names = H.names shelf.old; input_faults = S.faults input.old; output_faults = K.faults out.old; shelf_faults = H.faults shelf.old } in
         let after : Outside = record { left = S.left input.new; held = K.held out.new; names = H.names shelf.new; input_faults = S.faults input.new; output_faults = K.faults out.new; shelf_faults = H.faults shelf.new } in
-        Asks (map string_bytes words.now) commands.Check → RunsCheck before after (fault_of result)
-    }
+        Asks (map string_bytes words.now) commands.Check → RunsCheck before after (fault_of result) }
 
     // What is left as it was.
     ensures untouched { fault_of result ≡ Some faults.Words → (input.new ≡ input.old) × (shelf.new ≡ shelf.old) × (out.new ≡ out.old) }

@@ -282,7 +282,10 @@ fn tells_a_fault_of_closing(rt: HostRuntime) -> Result<(), Fail> {
     let home = home_image(&rt, alloc, 1, 50752)?;
     let journal = journal(alloc, &RECORD)?;
     for (stuck, device) in [("home", Device::Home), ("j0", Device::Journal(0))] {
-        let devices = [("home", home.as_slice(), [].as_slice()), ("j0", journal.as_slice(), &[])];
+        let devices = [
+            ("home", home.as_slice(), [].as_slice()),
+            ("j0", journal.as_slice(), &[]),
+        ];
         let (fault, written, order) = closed(alloc, &devices, stuck)?;
         assert_eq!(rt; fault, Some(Fault::Device { device }));
         assert_eq!(rt; written.as_slice(), "j0 from 0 found 1 kept 1\n".as_bytes());

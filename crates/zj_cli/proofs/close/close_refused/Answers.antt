@@ -25,4 +25,4 @@ returns-in-Some-clause-back g c before mid super stay lent stops =
     let many : c.len.result ≡ length c.args.areas.items = omega (arith, c.len.ensures) in
     let named = c.journal_name-name.ensures ∙ ap (λ (core : ℕ). journal_name core) many in
     one_back view before mid now super home areas c.args.refused stay lent stops c.in-Some.d c.in-Some.is (g.H.Shelf.names c.close_set.new.shelf) (g.H.Shelf.names c.close.new.self) back
-        (rw named at c.close.ensures.closed) (rw named at c.close.ensures.others)
+    (rw named at c.close.ensures.closed) (rw named at c.close.ensures.others)

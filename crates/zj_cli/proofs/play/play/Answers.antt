@@ -11,4 +11,4 @@ returns-clause-ends g c names shelf_faults =
     let after : Outside = record { left = g.S.Source.left c.read_whole.new.input; held = g.K.Sink.held c.write_whole.new.out; names = names; input_faults = g.S.Source.faults c.read_whole.new.input; output_faults = g.K.Sink.faults c.write_whole.new.out; shelf_faults = shelf_faults } in
     let is_script = rw (c.in-Some.is, c.deref.ensures.value) at c.in_ok-lines.ensures.some in
     play_ends 1 play_limits root_alone before after c.in_ok-script.script.items c.in-Some.lines.items c.in_ok-answers.answers.items c.in_ok-script.ensures.ok is_script (rw c.deref-2.ensures.value at c.in_ok-answers.ensures)
-        c.write_whole.result c.in_ok-script.ensures.quiet refl (rw c.deref-3.ensures.value at c.write_whole.ensures.ok) c.write_whole.ensures.quiet (rw c.deref-3.ensures.value at c.write_whole.ensures.err) c.write_whole.ensures.cause
+    c.write_whole.result c.in_ok-script.ensures.quiet refl (rw c.deref-3.ensures.value at c.write_whole.ensures.ok) c.write_whole.ensures.quiet (rw c.deref-3.ensures.value at c.write_whole.ensures.err) c.write_whole.ensures.cause

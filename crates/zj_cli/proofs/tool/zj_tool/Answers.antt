@@ -28,9 +28,9 @@ returns-in-Some-Play-clause-play g c asks =
 
 pub returns-in-Some-Play-clause-words : goal.returns-in-Some-Play-clause-words
 returns-in-Some-Play-clause-words g c = (
-    λ words. absurd (play_knows_words _ _ _ _ (c.play.ensures.ends (g.H.Shelf.names c.args.shelf.now) (g.H.Shelf.faults c.args.shelf.now)) (c.new.ensures ∙ c.err.ensures.value) words),
-    λ none. absurd (none c.in-Some-Play.field-0 c.in-Some-Play.ensures.some),
-  )
+  λ words. absurd (play_knows_words _ _ _ _ (c.play.ensures.ends (g.H.Shelf.names c.args.shelf.now) (g.H.Shelf.faults c.args.shelf.now)) (c.new.ensures ∙ c.err.ensures.value) words),
+  λ none. absurd (none c.in-Some-Play.field-0 c.in-Some-Play.ensures.some),
+)
 
 pub returns-in-Some-Play-clause-untouched : goal.returns-in-Some-Play-clause-untouched
 returns-in-Some-Play-clause-untouched g c words =
@@ -42,9 +42,9 @@ returns-in-Some-Check-clause-check g c asks =
 
 pub returns-in-Some-Check-clause-words : goal.returns-in-Some-Check-clause-words
 returns-in-Some-Check-clause-words g c = (
-    λ words. absurd (check_knows_words _ _ _ _ (c.check.ensures.runs (g.S.Source.left c.args.input.now) (g.S.Source.faults c.args.input.now)) (c.new-in-Some-Check.ensures ∙ c.err-in-Some-Check.ensures.value) words),
-    λ none. absurd (none c.in-Some-Check.field-0 c.in-Some-Check.ensures.some),
-  )
+  λ words. absurd (check_knows_words _ _ _ _ (c.check.ensures.runs (g.S.Source.left c.args.input.now) (g.S.Source.faults c.args.input.now)) (c.new-in-Some-Check.ensures ∙ c.err-in-Some-Check.ensures.value) words),
+  λ none. absurd (none c.in-Some-Check.field-0 c.in-Some-Check.ensures.some),
+)
 
 pub returns-in-Some-Check-clause-untouched : goal.returns-in-Some-Check-clause-untouched
 returns-in-Some-Check-clause-untouched g c words =
