@@ -1,5 +1,5 @@
 -- The calls of a commit, one after the other: what a crash may leave at each moment.
-use Rattle.std.proofs.Common.{◌≡◌, ℕ, ◌+◌, ◌-◌, ◌≤◌, true, List, subst, arith}
+use Rattle.std.proofs.Common.{◌≡◌, ℕ, ◌+◌, ◌-◌, List, subst, arith}
 use Rattle.zj_dev.specs.Disk.{Continues, DiskView, EachImageSince, SameOutside, StaysSince, TearsSince}
 use Rattle.zj_dev.proofs.DiskLaws.{each_then, same_outside_refl}
 use Rattle.zj_area.specs.Moments.{TornByGate, TornByLay}

@@ -2,6 +2,7 @@
 use Rattle.std.specs.Prelude.{◌≡◌, ◌≢◌, ℕ, ◌+◌, ◌^◌, ◌<◌, ◌≤◌, List, length, take, Option, Some, IfSome, ◌==◌, if◌then◌else◌, ⊤}
 use Rattle.zj_block.specs.Sizes.{Numbers, max_record}
 use Rattle.zj_block.specs.declared.numbers.Tail.{Tail}
+use Rattle.zj_block.specs.declared.sizes.TheConstants.{RECORD_HEAD_LEN}
 use Rattle.zj_dev.specs.Fault.{Rose}
 use Rattle.zj_dev.specs.Disk.{DiskView}
 use Rattle.zj_tx.specs.Record.{IsRecord, Record, record_bytes}
@@ -13,7 +14,7 @@ use Rattle.zj_area.specs.declared.fault.ScanFault.TheVariants as faults
 
 -- the first bytes tell how long the record is that they begin
 abbrev pub TellsLength : Numbers → List ℕ → ℕ → Type 0
-TellsLength n bytes len = (r : Record) → IsRecord r → length r.bounds ≡ n.cores → take 24 (record_bytes r) ≡ take 24 bytes → len ≡ length (record_bytes r)
+TellsLength n bytes len = (r : Record) → IsRecord r → length r.bounds ≡ n.cores → take RECORD_HEAD_LEN (record_bytes r) ≡ take RECORD_HEAD_LEN bytes → len ≡ length (record_bytes r)
 
 -- the record at the start of the ring was read, with this number
 pub record WasRead (n : Numbers) (core number : ℕ) (image : List ℕ) : Type 0 where

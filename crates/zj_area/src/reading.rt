@@ -1,6 +1,6 @@
 //! Reading the records of a journal.
 
-ghost use Rattle.std.specs.Prelude.{◌≡◌, ℕ, ◌+◌, ◌*◌, ◌^◌, ◌<◌, ◌≤◌, IfOk, IfErr, IfSome, IfNone, OnOk, OnErr, OnSome, length, slice_range, take};
+ghost use Rattle.std.specs.Prelude.{◌≡◌, ◌+◌, ◌*◌, ◌^◌, ◌<◌, ◌≤◌, IfOk, IfErr, IfSome, IfNone, OnOk, OnErr, OnSome, length, slice_range, take};
 ghost use Rattle.zj_block.specs.Sizes.{IsInLimits, max_record};
 ghost use Rattle.zj_dev.specs.Fault.{Rose};
 ghost use Rattle.zj_dev.specs.Disk.{IsDisk, OnlyReads};
@@ -13,7 +13,7 @@ use crate::device::read_at;
 use crate::fault::ScanFault;
 use crate::ring::behind;
 use std::alloc::Global;
-use zj_block::{Sizes, Tail};
+use zj_block::{RECORD_BOUND_LEN, RECORD_HEAD_LEN, Sizes, Tail};
 use zj_dev::{Disk, DiskFault};
 use zj_tx::laws::{gate_is_open, one_spelling, spelling_length};
 use zj_tx::{Found, RecordFault, Sealed, decode, len_from_head};
@@ -38,7 +38,7 @@ fn read_bytes<D: Disk>(
     ensures open { IfOk result (λ found. IfSome found (λ len. IfSome (D.view d.old).bytes (λ image. IsOpenAt image place))) }
     ensures bytes { IfOk result (λ found. IfSome found (λ len. IfSome (D.view d.old).bytes (λ image. take len buffer.new ≡ slice_range image place (place + len)))) }
     ensures len { IfOk result (λ found. IfSome found (λ len. TellsLength sizes.now buffer.new len)) }
-    ensures most { IfOk result (λ found. IfSome found (λ len. (24 ≤ len) × (len ≤ max_record sizes.now))) }
+    ensures most { IfOk result (λ found. IfSome found (λ len. (RECORD_HEAD_LEN ≤ len) × (len ≤ max_record sizes.now))) }
     ensures read_only { OnlyReads (D.view d.old) (D.view d.new) }
     ensures is_disk { IsDisk (D.view d.new) }
     ensures counted { IfOk result (λ found. OnSome found (((D.view d.old).calls < 2 ^ 63) × ((D.view d.old).calls + 1 ≤ (D.view d.new).calls))) }
@@ -46,7 +46,7 @@ fn read_bytes<D: Disk>(
     ensures calls_of_none { IfOk result (λ found. IfNone found ((D.view d.new).calls ≤ (D.view d.old).calls + 1)) }
     ensures cause { OnErr result (Rose (D.view d.old).faults (D.view d.new).faults) }
 {
-    let head = 24 + 8 * sizes.cores() as usize;
+    let head = (RECORD_HEAD_LEN + RECORD_BOUND_LEN * u64::from(sizes.cores())) as usize;
     read_at(d, place, &mut buffer[..head])?;
     if buffer[0] != OPEN {
         return Ok(None);

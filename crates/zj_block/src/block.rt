@@ -1,6 +1,6 @@
 //! One block of 512 bytes.
 
-ghost use Rattle.std.specs.Prelude.{◌≡◌, ℕ, ◌+◌, ◌*◌, ◌^◌, ◌<◌, ◌≤◌, ◌↔◌, [], ◌∷◌, IsTrue, IsSome, IfSome, IfNone, OnSome, length, slice_get, slice_index, slice_set};
+ghost use Rattle.std.specs.Prelude.{◌≡◌, ℕ, ◌+◌, ◌*◌, ◌<◌, ◌≤◌, ◌↔◌, [], ◌∷◌, IsTrue, IsSome, IfSome, IfNone, OnSome, slice_get, slice_index, slice_set};
 ghost use Rattle.std.specs.Int.{byte_at, bytes_low_first, to_le_bytes, w32};
 ghost use Rattle.zj_block.specs.Block.{IsContent, bytes_of, u32_at, with_bytes_at, overwritten, words_of, zero_content};
 

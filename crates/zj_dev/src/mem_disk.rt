@@ -124,10 +124,10 @@ fn filled_copy(
 }
 
 impl MemDisk {
-    ghost use Rattle.std.specs.Prelude.{◌≡◌, ℕ, ◌+◌, ◌-◌, ◌^◌, ◌<◌, ◌≤◌, List, length, true, false, min, unwrap_or, IsTrue, IfOk, OnOk, OnErr};
+    ghost use Rattle.std.specs.Prelude.{◌≡◌, ℕ, ◌+◌, ◌-◌, ◌^◌, ◌<◌, ◌≤◌, length, true, false, min, unwrap_or, IsTrue, IfOk, OnOk, OnErr};
     ghost use Rattle.zj_dev.specs.Fault.{Rose};
-    ghost use Rattle.zj_dev.specs.Disk.{IsDisk, LeavesAll, Writes, FailsToWrite, Syncs, FailsToSync};
-    ghost use Rattle.zj_dev.specs.Medium.{at_rest, written, torn, leaves, torn_image};
+    ghost use Rattle.zj_dev.specs.Disk.{LeavesAll, Writes, FailsToWrite, Syncs};
+    ghost use Rattle.zj_dev.specs.Medium.{at_rest, written, torn, torn_image};
     ghost use Rattle.zj_dev.specs.MemDisk.{medium_of, failing_calls, stop_call, calls_made, fails_now, disk_view, IsFresh, IsUnchanged, SameFailures, GivesUp};
 
     /// A disk with these bytes and nothing pending. The calls with the numbers in `failing` fail, and from
@@ -267,7 +267,7 @@ impl MemDisk {
 impl Disk for MemDisk {
     ghost use Rattle.std.specs.Prelude.{◌≡◌, ◌+◌, ◌^◌, ◌≤◌, ◌↔◌, ◌⊎◌, length, slice_range, IsTrue, IsErr, OnOk, OnErr, IfSome};
     ghost use Rattle.zj_dev.specs.Fault.{Rose};
-    ghost use Rattle.zj_dev.specs.Disk.{IsDisk, LeavesAll, Writes, FailsToWrite, Syncs, FailsToSync};
+    ghost use Rattle.zj_dev.specs.Disk.{LeavesAll, Writes, FailsToWrite, Syncs, FailsToSync};
     ghost use Rattle.zj_dev.specs.Medium.{at_rest, written, torn};
     ghost use Rattle.zj_dev.specs.MemDisk.{medium_of, fails_now, disk_view, SameFailures, GivesUp};
 

@@ -1,6 +1,6 @@
 //! Byte streams out of the program.
 
-ghost use Rattle.std.specs.Prelude.{◌≡◌, ℕ, ◌+◌, ◌<◌, ◌≤◌, ◌↔◌, List, [], ◌++◌, length, take, Option, Some, None, IsErr, IfOk, OnErr, OnOk, Contains};
+ghost use Rattle.std.specs.Prelude.{◌≡◌, ℕ, ◌+◌, ◌<◌, ◌≤◌, List, [], length, take, Option, Some, None, IsErr, IfOk, OnErr, OnOk, Contains};
 ghost use Rattle.zj_dev.specs.Fault.{Rose};
 ghost use Rattle.zj_dev.specs.Stream.{Took};
 
@@ -70,7 +70,7 @@ impl MemSink {
 }
 
 impl Sink for MemSink {
-    ghost use Rattle.std.specs.Prelude.{◌≡◌, ℕ, ◌+◌, ◌-◌, ◌^◌, ◌<◌, ◌≤◌, length, take, Some, min, IsErr, IfOk, OnErr, OnOk, Contains};
+    ghost use Rattle.std.specs.Prelude.{◌≡◌, ◌+◌, ◌-◌, ◌^◌, ◌<◌, ◌≤◌, length, take, Some, min, IsErr, IfOk, OnErr, OnOk, Contains};
     ghost use Rattle.zj_dev.specs.Fault.{Rose};
     ghost use Rattle.zj_dev.specs.Stream.{Took};
     ghost use Rattle.zj_dev.specs.Memory.{bytes_held, failing_writes, writes_made};

@@ -1,6 +1,6 @@
 //! Byte streams into the program.
 
-ghost use Rattle.std.specs.Prelude.{◌≡◌, ℕ, ◌+◌, ◌<◌, ◌≤◌, ◌↔◌, List, [], length, take, drop, Option, Some, None, min, IsErr, IfOk, IfSome, OnErr, OnOk, Contains};
+ghost use Rattle.std.specs.Prelude.{◌≡◌, ℕ, ◌+◌, ◌<◌, ◌≤◌, ◌↔◌, List, [], length, take, Option, Some, None, min, IsErr, IfOk, IfSome, OnErr, OnOk, Contains};
 ghost use Rattle.zj_dev.specs.Fault.{Rose};
 ghost use Rattle.zj_dev.specs.Stream.{Gave};
 
@@ -66,7 +66,7 @@ impl MemSource {
 }
 
 impl Source for MemSource {
-    ghost use Rattle.std.specs.Prelude.{◌≡◌, ℕ, ◌+◌, ◌-◌, ◌^◌, ◌<◌, ◌≤◌, ◌↔◌, [], length, take, Some, min, IsErr, IfOk, IfSome, OnErr, OnOk, Contains};
+    ghost use Rattle.std.specs.Prelude.{◌≡◌, ◌+◌, ◌-◌, ◌^◌, ◌<◌, ◌≤◌, ◌↔◌, [], length, take, Some, min, IsErr, IfOk, IfSome, OnErr, OnOk, Contains};
     ghost use Rattle.zj_dev.specs.Fault.{Rose};
     ghost use Rattle.zj_dev.specs.Stream.{Gave};
     ghost use Rattle.zj_dev.specs.Memory.{bytes_left, failing_reads, reads_made};

@@ -1,6 +1,6 @@
 //! Making a home, call by call.
 
-ghost use Rattle.std.specs.Prelude.{◌≡◌, ℕ, ◌+◌, ◌*◌, ◌^◌, ◌<◌, ◌≤◌, ◌⊎◌, [], ◌∷◌, ◌++◌, true, Some, IfOk, OnOk, OnErr, IfErr, IfSome, All, length, take, drop, List, option_map};
+ghost use Rattle.std.specs.Prelude.{◌≡◌, ◌+◌, ◌*◌, ◌^◌, ◌<◌, ◌≤◌, ◌⊎◌, [], ◌∷◌, Some, IfOk, OnOk, OnErr, IfErr, IfSome, All, length, take, drop, option_map};
 ghost use Rattle.zj_block.specs.Block.{bytes_of};
 ghost use Rattle.zj_dev.specs.Fault.{Rose};
 ghost use Rattle.zj_dev.specs.Disk.{IsDisk, Continues, IsSettled, LeadsTo, TearsSince, replaced};

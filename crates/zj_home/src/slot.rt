@@ -1,8 +1,8 @@
 //! The slots of a home: what their bytes tell, and which of them counts.
 
-ghost use Rattle.std.specs.Prelude.{◌≡◌, ℕ, ◌+◌, ◌*◌, ◌^◌, ◌<◌, ◌≤◌, All, length, None, Some, take, map, IfOk, IfErr, IfSome, OnOk, option_map};
+ghost use Rattle.std.specs.Prelude.{◌≡◌, ℕ, ◌+◌, ◌^◌, ◌<◌, ◌≤◌, All, length, None, Some, take, map, IfOk, IfErr, IfSome, OnOk, option_map};
 ghost use Rattle.std.specs.List.{range_with_len};
-ghost use Rattle.zj_block.specs.Sizes.{IsInLimits, numbers_of, out_of_range};
+ghost use Rattle.zj_block.specs.Sizes.{IsInLimits, numbers_of};
 ghost use Rattle.zj_home.specs.Told.{super_told};
 ghost use Rattle.zj_home.specs.Super.{IsOfBytes, IsTail, counting, field_fault, head_fault, home_length, numbers_fault, numbers_in, slot_fault, super_in, tail_fault, tail_in, tails_fault, u32_in, u64_in};
 

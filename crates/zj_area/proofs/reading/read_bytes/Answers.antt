@@ -13,13 +13,13 @@ part_len h m buffer into many within =
 
 pub returns-clause-open : goal.returns-clause-open
 returns-clause-open g c =
-    let h = 24 + 8 * c.cores.result in
+    let h = 24 + 8 * c.from.result in
     let many : length c.read_at.new.into ≡ h = c.read_at.auto.into ∙ length-take-le h c.args.buffer.now (omega arith) in
     if_some (g.D.Disk.view c.args.d.now).bytes (λ image read. sym (first_byte image c.args.place c.read_at.new.into (drop h c.args.buffer.now) (omega arith) read) ∙ c.if-buffer-ne-OPEN.false) c.in_ok-read_at.ensures.given
 
 pub returns-clause-bytes : goal.returns-clause-bytes
 returns-clause-bytes g c =
-    let h = 24 + 8 * c.cores.result in
+    let h = 24 + 8 * c.from.result in
     let len = c.len_from_head-len.result in
     let head_len : length c.read_at.new.into ≡ h = c.read_at.auto.into ∙ length-take-le h c.args.buffer.now (omega arith) in
     let rest_len : length c.read_at-2.new.into ≡ len - h = c.read_at-2.auto.into ∙ part_len h (len - h) c.args.buffer.now c.read_at.new.into head_len (omega arith) in
@@ -29,7 +29,7 @@ returns-clause-bytes g c =
 
 pub returns-clause-len : goal.returns-clause-len
 returns-clause-len g c = λ r is many same.
-    let h = 24 + 8 * c.cores.result in
+    let h = 24 + 8 * c.from.result in
     let len = c.len_from_head-len.result in
     let head_len : length c.read_at.new.into ≡ h = c.read_at.auto.into ∙ length-take-le h c.args.buffer.now (omega arith) in
     let room : h ≤ length (c.read_at.new.into ++ drop h c.args.buffer.now) = omega (arith, length-append c.read_at.new.into (drop h c.args.buffer.now), head_len) in
