@@ -13,14 +13,14 @@ use zj_block::{Sizes, Tails};
 use zj_closure::closed;
 use zj_tx::{Found, Sealed, decode};
 
-// Tails of a new image.
+/// Tails of a new image.
 fn start() -> Tails
     ensures { (core : ℕ) → tail_of result core < 2 ^ 62 }
 {
     Tails::zero()
 }
 
-// The record of a transaction of no block.
+/// The record of a transaction of no block.
 fn sealed(
     alloc: Global,
     sizes: &Sizes,
@@ -42,8 +42,8 @@ fn sealed(
     Ok(decode(alloc, sizes, core, number, &bytes)?)
 }
 
-// A core's records: each follows the one of the same number on the next core, and on the last core the next number of the
-// first one. The last core's last record follows that many beyond its own number.
+/// A core's records: each follows the one of the same number on the next core, and on the last core the next number of the
+/// first one. The last core's last record follows that many beyond its own number.
 fn journal(alloc: Global, sizes: &Sizes, core: u32, count: u64, last: u64) -> anyhow::Result<Found>
     requires core { core < sizes.now.cores }
     requires count { count < 2 ^ 32 }
@@ -63,7 +63,7 @@ fn journal(alloc: Global, sizes: &Sizes, core: u32, count: u64, last: u64) -> an
     Ok(records)
 }
 
-// The journals of eight cores.
+/// The journals of eight cores.
 fn journals(alloc: Global, sizes: &Sizes, count: u64, last: u64) -> anyhow::Result<Vec<Found>>
     requires cores { sizes.now.cores ≡ 8 }
     requires count { count < 2 ^ 32 }
@@ -76,7 +76,7 @@ fn journals(alloc: Global, sizes: &Sizes, count: u64, last: u64) -> anyhow::Resu
     Ok(found)
 }
 
-// Closes journals of so many records, and tells how many of the first core are kept, and the time.
+/// Closes journals of so many records, and tells how many of the first core are kept, and the time.
 fn close(rt: &HostRuntime, sizes: &Sizes, count: u64, last: u64) -> anyhow::Result<()>
     requires cores { sizes.now.cores ≡ 8 }
     requires count { count < 2 ^ 32 }

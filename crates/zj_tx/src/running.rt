@@ -27,9 +27,9 @@ pub struct Running {
     handles: u64,
     follows: Follows,
     parts: Vec<Part>,
-    // The record's bounds, laid out as room is made.
+    /// The record's bounds, laid out as room is made.
     bounds: Vec<u64>,
-    // For how many new blocks room was made, since an operation was added last.
+    /// For how many new blocks room was made, since an operation was added last.
     room: Option<u32>,
 }
 
@@ -148,7 +148,7 @@ impl Running {
     }
 }
 
-// How far a record says that a core is followed.
+/// How far a record says that a core is followed.
 fn bound_of(follows: &Follows, core: u32, own: u32) -> u64
     ensures bound { result ≡ recorded_bound own follows.now core }
     ensures bounds { IsBounds follows.now }
@@ -160,7 +160,7 @@ fn bound_of(follows: &Follows, core: u32, own: u32) -> u64
     bound
 }
 
-// Fills in how far each core is followed.
+/// Fills in how far each core is followed.
 fn fill_bounds(bounds: &mut [u64], follows: &Follows, own: u32)
     requires { length bounds.old ≤ 64 }
     ensures len { length bounds.new ≡ length bounds.old }
