@@ -4,7 +4,7 @@
 #![tactic(auto)]
 
 ghost use Rattle.std.specs.Prelude.{◌≡◌, ◌<◌, ◌^◌, ℕ};
-ghost use Rattle.zj_closure.specs.Growing.{tail_of};
+ghost use Rattle.zj_closure.specs.Found.{tail_of};
 
 use std::alloc::Global;
 use std::env;
