@@ -76,6 +76,7 @@ stamped stamp content = option_map (λ c. record { stamp = stamp; content = c })
 pub record IsAdded (old new : Transaction) (ticket : ℕ) (written : Contents) (follows : List ℕ) : Type 0 where
   pub others : new ≡ record old { handles = old.handles + 1; follows = new.follows; parts = new.parts; room = None }
   pub raised : IsRaised old.follows new.follows follows
+  pub many : length new.parts ≡ length old.parts + new_count old.parts written
   pub images : (block : ℕ) → image_in new.parts block ≡ option_or (stamped (ticket + 1) (map_of.get written block)) (image_in old.parts block)
 
 -- how far a record says that a core is followed: on the own core that is 0

@@ -3,7 +3,7 @@
 ghost use Rattle.std.specs.Prelude.{◌≡◌, ◌≢◌, ◌+◌, ◌-◌, ◌^◌, ◌<◌, ◌≤◌, ℕ, Some, OnOk, OnErr, IfErr, length, max, slice_index, unwrap_or};
 ghost use Rattle.zj_block.specs.Numbers.{IsBounds};
 ghost use Rattle.zj_block.specs.declared.sizes.TheConstants.{MAX_RECORD_BLOCKS};
-ghost use Rattle.zj_tx.specs.Record.{IsRecord};
+ghost use Rattle.zj_tx.specs.Record.{Ascends, IsRecord};
 ghost use Rattle.zj_tx.specs.Running.{HasRoom, IsAdded, IsRoomCause, IsSealed, empty_transaction, new_count, recorded_bound};
 
 use crate::adding::{add_all, count_new};
@@ -83,6 +83,7 @@ impl Running {
     pub fn have(&self) -> u32
         ensures have { result ≡ length self.now.parts }
         ensures most { result ≤ MAX_RECORD_BLOCKS }
+        ensures ascending { Ascends 0 self.now.parts }
     {
         self.parts.len() as u32
     }
