@@ -29,7 +29,7 @@ fn main(rt: HostRuntime) -> io::Result<ExitCode> {
     Ok(ExitCode::from(status.code()))
 }
 
-// A fault that can't be told changes nothing of the status.
+/// Tells a fault on standard error. One that can't be told changes nothing of the status.
 fn tell_fault(rt: &HostRuntime, status: &Status) {
     if let Some(fault) = status.fault() {
         let _ = eprintln!(rt; "zj: {fault}");

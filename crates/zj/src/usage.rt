@@ -37,7 +37,7 @@ An image of more cores than one is refused as not built yet, with status 3.
 
 Status: 0 done; and with a text on standard error: 1 the words are no command,
 2 the input is no script, 3 a device of the image is absent or holds something
-else, 4 reading or closing a device failed, 5 no memory, 6 reading standard input
+else, 4 reading or closing a device failed, 5 out of memory, 6 reading standard input
 failed, 7 writing failed.
 ";
 

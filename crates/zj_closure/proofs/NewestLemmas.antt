@@ -1,7 +1,8 @@
 -- The newest images of more and more records.
-use Rattle.std.proofs.Common.{◌≡◌, ◌⊎◌, inl, inr, ℕ, zero, suc, ◌+◌, ◌<◌, ◌≤◌, cond, eqb, eq-eqb, ne_eqb, List, [], ◌∷◌, ◌++◌, length, take, Option, Some, None, refl, sym, ap, ◌∙◌, subst, arith, append-nil, append_assoc, add-one}
-use Rattle.std.specs.Prelude.{slice_get, IfSome}
+use Rattle.std.proofs.Common.{◌≡◌, ◌⊎◌, inl, inr, ℕ, zero, suc, ◌+◌, ◌<◌, ◌≤◌, Bool, true, false, cond, eqb, eq-eqb, ne_eqb, List, [], ◌∷◌, ◌++◌, length, take, Option, Some, None, refl, sym, ap, ◌∙◌, subst, arith, append-nil, append_assoc, add-one}
+use Rattle.std.specs.Prelude.{find, slice_get, IfSome}
 use Rattle.std.specs.List.{fold, flat_map, range_with_len}
+use Rattle.std.specs.Option.{option_map}
 use Rattle.std.proofs.lemmas.Bool.{cases_eq}
 use Rattle.std.proofs.lemmas.Option.{same_Some}
 use Rattle.std.proofs.lemmas.List.Sums.{fold-append}
@@ -10,9 +11,16 @@ use Rattle.zj_tx.specs.declared.part.Part.{Part}
 use Rattle.zj_tx.specs.Record.{Record, Ascends}
 use Rattle.zj_tx.specs.Frozen.{Image, image_in}
 use Rattle.zj_tx.specs.Parts.{part_image}
-use Rattle.zj_tx.proofs.PartLists.{image_in-cons}
 use Rattle.zj_closure.specs.Recovered.{newer, records_below}
 use Rattle.zj_closure.specs.Newest.{HasNewer, HasNewestOf}
+
+-- the image of a longer list
+image_in-cons : (q : Part) (parts : List Part) (block : ℕ) → image_in (q ∷ parts) block ≡ cond (eqb q.block.0 block) (Some (part_image q)) (image_in parts block)
+image_in-cons q parts block = by (eqb q.block.0 block)
+  where
+    by : (b : Bool) → option_map part_image (cond b (Some q) (find (λ p. eqb p.block.0 block) parts)) ≡ cond b (Some (part_image q)) (option_map part_image (find (λ p. eqb p.block.0 block) parts))
+    by true = refl
+    by false = refl
 
 -- ---- fronts of lists
 

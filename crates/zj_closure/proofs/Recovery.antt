@@ -19,11 +19,11 @@ use Rattle.zj_history.proofs.Numbers.{is_of-itself, is_of-parts}
 use Rattle.zj_history.proofs.Cuts.{OwnWrites, own_of_consistent, rises-filter, rises_of_legal, earlier_within}
 use Rattle.zj_tx.specs.Record.{Record}
 use Rattle.zj_tx.specs.Frozen.{Image, image_in, image_of, IsFrozen}
-use Rattle.zj_closure.specs.Found.{Journals, records_of, IsFoundAs, AreInOrder}
+use Rattle.zj_closure.specs.Found.{Journals, records_of, IsFoundAs}
 use Rattle.zj_closure.specs.Kept.{AreKept}
 use Rattle.zj_closure.specs.Recovered.{records_below, kept_records, newest_image, recovered, recovered_content}
 use Rattle.zj_closure.specs.Laws.{AreJournalsOf, HoldsTails, Recovers, RecoversCut, HomeMayTear, NothingIsKept}
-use Rattle.zj_closure.proofs.Keeping.{keeps_closed, kept_is_closed, found_between, consistent_of_closed, closed_of_consistent}
+use Rattle.zj_closure.proofs.Keeping.{AreInOrder, keeps_closed, kept_is_closed, found_between, consistent_of_closed, closed_of_consistent}
 use Rattle.zj_closure.proofs.ImageLemmas.{IsNewest, newest_is, none_in}
 
 -- ---- lists

@@ -55,7 +55,7 @@ impl Images {
     }
 }
 
-// Puts a block in where it is newer than the one with its number.
+/// Puts a block in where it is newer than the one with its number.
 fn put_newer(images: &mut Vec<Part>, part: Part) -> Result<(), AllocError>
     requires { Ascends 0 images.old.items }
     ensures ok { OnOk result (HasNewer images.old.items images.new.items part) }
@@ -68,7 +68,7 @@ fn put_newer(images: &mut Vec<Part>, part: Part) -> Result<(), AllocError>
     parts::put(images, part)
 }
 
-// Adds the block with this place in a record.
+/// Adds the block with this place in a record.
 fn add_part(images: &mut Vec<Part>, sealed: &Sealed, i: usize) -> Result<(), AllocError>
     requires { Ascends 0 images.old.items }
     ensures ok { OnOk result (IfSome (slice_get sealed.now.parts i) (HasNewer images.old.items images.new.items)) }
@@ -85,7 +85,7 @@ fn add_part(images: &mut Vec<Part>, sealed: &Sealed, i: usize) -> Result<(), All
     put_newer(images, part)
 }
 
-// Adds what a record has of each block.
+/// Adds what a record has of each block.
 fn add_record(images: &mut Vec<Part>, sealed: &Sealed) -> Result<(), AllocError>
     requires { Ascends 0 images.old.items }
     ensures ok { OnOk result (HasNewestOf images.old.items images.new.items (sealed.now ∷ [])) }
@@ -96,7 +96,7 @@ fn add_record(images: &mut Vec<Part>, sealed: &Sealed) -> Result<(), AllocError>
     Ok(())
 }
 
-// Adds a record where its number is below a bound.
+/// Adds a record where its number is below a bound.
 fn add_below(images: &mut Vec<Part>, sealed: &Sealed, bound: u64) -> Result<(), AllocError>
     requires { Ascends 0 images.old.items }
     ensures ok { OnOk result (HasNewestOf images.old.items images.new.items (records_below bound (sealed.now ∷ []))) }
@@ -107,7 +107,7 @@ fn add_below(images: &mut Vec<Part>, sealed: &Sealed, bound: u64) -> Result<(), 
     add_record(images, sealed)
 }
 
-// Adds the record with this place in a journal, where its number is below a bound.
+/// Adds the record with this place in a journal, where its number is below a bound.
 fn add_found(images: &mut Vec<Part>, found: &Found, i: usize, bound: u64) -> Result<(), AllocError>
     requires { Ascends 0 images.old.items }
     ensures ok { OnOk result (IfSome (slice_get found.now i) (λ r. HasNewestOf images.old.items images.new.items (records_below bound (r ∷ [])))) }
@@ -119,7 +119,7 @@ fn add_found(images: &mut Vec<Part>, found: &Found, i: usize, bound: u64) -> Res
     add_below(images, sealed, bound)
 }
 
-// Adds the records of one core below its bound.
+/// Adds the records of one core below its bound.
 fn add_core(images: &mut Vec<Part>, found: &Found, bound: u64) -> Result<(), AllocError>
     requires { Ascends 0 images.old.items }
     ensures ok { OnOk result (HasNewestOf images.old.items images.new.items (records_below bound found.now)) }

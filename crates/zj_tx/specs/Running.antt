@@ -2,7 +2,7 @@
 use Rattle.std.specs.Prelude.{◌≡◌, ◌≢◌, ℕ, ◌+◌, ◌-◌, ◌<◌, ◌≤◌, ◌^◌, max, min, List, [], length, Option, Some, None, ◌==◌, if◌then◌else◌, slice_index, count_by, is_none}
 use Rattle.std.specs.List.{All, AllByRecursion, flat_map}
 use Rattle.std.specs.FinMap as map_of
-use Rattle.std.specs.Option.{ForSome, option_map, option_or}
+use Rattle.std.specs.Option.{ForSome, IsSomeAnd, option_map, option_or}
 use Rattle.zj_block.specs.Numbers.{zero_bounds}
 use Rattle.zj_block.specs.declared.numbers.Writer.{Writer}
 use Rattle.zj_block.specs.declared.sizes.TheConstants.{MAX_RECORD_BLOCKS}
@@ -57,6 +57,10 @@ pub record IsRaised (old new by : List ℕ) : Type 0 where
 abbrev pub new_count : List Part → Contents → ℕ
 new_count parts written = count_by (λ e. is_none (image_in parts e.0)) (map_of.entries written)
 
+-- room was made for the new blocks among contents, since an operation was added last
+abbrev pub HasRoom : Transaction → Contents → Type 0
+HasRoom t written = IsSomeAnd t.room (λ room. new_count t.parts written ≤ room)
+
 -- Why no room is made for contents: with their new blocks the transaction would have more than a record has. A count of
 -- new blocks past what fits its type stands at the greatest that does.
 abbrev pub IsRoomCause : Transaction → Contents → RoomFault → Type 0
@@ -72,6 +76,7 @@ stamped stamp content = option_map (λ c. record { stamp = stamp; content = c })
 pub record IsAdded (old new : Transaction) (ticket : ℕ) (written : Contents) (follows : List ℕ) : Type 0 where
   pub others : new ≡ record old { handles = old.handles + 1; follows = new.follows; parts = new.parts; room = None }
   pub raised : IsRaised old.follows new.follows follows
+  pub many : length new.parts ≡ length old.parts + new_count old.parts written
   pub images : (block : ℕ) → image_in new.parts block ≡ option_or (stamped (ticket + 1) (map_of.get written block)) (image_in old.parts block)
 
 -- how far a record says that a core is followed: on the own core that is 0

@@ -14,7 +14,7 @@ use crate::parts;
 use std::alloc::AllocError;
 use zj_block::{Stamp, Written};
 
-// Whether the block with this place among those written isn't among those of a transaction.
+/// Whether the block with this place among those written isn't among those of a transaction.
 fn is_new(blocks: &[Part], written: &Written, i: usize) -> bool
     requires { Ascends 0 blocks.now }
     ensures { IfSome (slice_get (map_of.entries written.now) i) (λ e. result ≡ is_none (image_in blocks.now e.0)) }
@@ -39,7 +39,7 @@ pub fn count_new(blocks: &[Part], written: &Written) -> usize
     count
 }
 
-// Puts in the block with this place among those written.
+/// Puts in the block with this place among those written.
 fn add_one(
     blocks: &mut Vec<Part>,
     written: &Written,

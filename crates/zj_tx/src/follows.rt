@@ -53,14 +53,14 @@ impl Follows {
     }
 
     /// Notes all that was noted in another.
-    pub fn raise(&mut self, by: &Follows)
+    pub(crate) fn raise(&mut self, by: &Follows)
         ensures { IsRaised self.old self.new by.now }
     {
         raise_bounds(&mut self.bounds, &by.bounds);
     }
 }
 
-// Sets the bound of a core.
+/// Sets the bound of a core.
 fn set_bound(bounds: &mut Bounds, core: u32, bound: u64)
     ensures set { bounds.new ≡ slice_set bounds.old core bound }
     ensures bounds { IsBounds bounds.new }
@@ -68,7 +68,7 @@ fn set_bound(bounds: &mut Bounds, core: u32, bound: u64)
     let _set = bounds.put(core, bound);
 }
 
-// Raises each bound to another's.
+/// Raises each bound to another's.
 fn raise_bounds(bounds: &mut Bounds, by: &Bounds)
     ensures raised { IsRaised bounds.old bounds.new by.now }
     ensures bounds { IsBounds bounds.new }

@@ -11,7 +11,7 @@ ghost use Rattle.zj_tx.specs.Record.{Ascends, IsPart};
 use crate::part::Part;
 use std::alloc::AllocError;
 
-// The place of the first block that is not below this one.
+/// The place of the first block that is not below this one.
 fn place(parts: &[Part], block: u32) -> usize
     requires { Ascends 0 parts.now }
     ensures { IsPartPlace parts.now block result }

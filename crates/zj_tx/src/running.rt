@@ -1,10 +1,10 @@
 //! The transaction that a core is running.
 
-ghost use Rattle.std.specs.Prelude.{◌≡◌, ◌≢◌, ◌+◌, ◌-◌, ◌^◌, ◌<◌, ◌≤◌, ℕ, Some, OnOk, OnErr, IfErr, length, slice_index};
+ghost use Rattle.std.specs.Prelude.{◌≡◌, ◌≢◌, ◌+◌, ◌-◌, ◌^◌, ◌<◌, ◌≤◌, ℕ, Some, OnOk, OnErr, IfErr, length, max, slice_index, unwrap_or};
 ghost use Rattle.zj_block.specs.Numbers.{IsBounds};
 ghost use Rattle.zj_block.specs.declared.sizes.TheConstants.{MAX_RECORD_BLOCKS};
-ghost use Rattle.zj_tx.specs.Record.{IsRecord};
-ghost use Rattle.zj_tx.specs.Running.{IsAdded, IsRoomCause, IsSealed, empty_transaction, new_count, recorded_bound};
+ghost use Rattle.zj_tx.specs.Record.{Ascends, IsRecord};
+ghost use Rattle.zj_tx.specs.Running.{HasRoom, IsAdded, IsRoomCause, IsSealed, empty_transaction, new_count, recorded_bound};
 
 use crate::adding::{add_all, count_new};
 use crate::fault::RoomFault;
@@ -27,9 +27,9 @@ pub struct Running {
     handles: u64,
     follows: Follows,
     parts: Vec<Part>,
-    // The record's bounds, laid out as room is made.
+    /// The record's bounds, laid out as room is made.
     bounds: Vec<u64>,
-    // For how many new blocks room was made, since an operation was added last.
+    /// For how many new blocks room was made at most, since an operation was added last.
     room: Option<u32>,
 }
 
@@ -83,6 +83,7 @@ impl Running {
     pub fn have(&self) -> u32
         ensures have { result ≡ length self.now.parts }
         ensures most { result ≤ MAX_RECORD_BLOCKS }
+        ensures ascending { Ascends 0 self.now.parts }
     {
         self.parts.len() as u32
     }
@@ -90,7 +91,7 @@ impl Running {
     /// Makes room for the blocks that an operation writes. `TxFull` exactly where the new ones among them and those of the
     /// transaction are more than 48. After a refusal the transaction is as before.
     pub fn make_room(&mut self, written: &Written) -> Result<(), RoomFault>
-        ensures ok { OnOk result (self.new ≡ record self.old { room = Some (new_count self.old.parts written.now) }) }
+        ensures ok { OnOk result (self.new ≡ record self.old { room = Some (max (unwrap_or self.old.room 0) (new_count self.old.parts written.now)) }) }
         ensures fits { OnOk result (length self.old.parts + new_count self.old.parts written.now ≤ MAX_RECORD_BLOCKS) }
         ensures cause { IfErr result (IsRoomCause self.old written.now) }
         ensures err { OnErr result (self.new ≡ self.old) }
@@ -105,14 +106,14 @@ impl Running {
         }
         self.parts.reserve(more)?;
         self.bounds.resize(self.cores as usize, 0)?;
-        self.room = Some(more as u32);
+        self.room = Some(self.room.unwrap_or(0).max(more as u32));
         Ok(())
     }
 
     /// Adds an operation: its ticket, the blocks that it wrote, and what it follows. Room was made for these blocks. It
     /// takes no memory.
     pub fn add(&mut self, ticket: u64, written: &Written, follows: &Follows)
-        requires room { self.old.room ≡ Some (new_count self.old.parts written.now) }
+        requires room { HasRoom self.old written.now }
         requires ticket { ticket < 2 ^ 64 - 1 }
         requires handles { self.old.handles < 2 ^ 64 - 1 }
         ensures { IsAdded self.old self.new ticket written.now follows.now }
@@ -148,7 +149,7 @@ impl Running {
     }
 }
 
-// How far a record says that a core is followed.
+/// How far a record says that a core is followed.
 fn bound_of(follows: &Follows, core: u32, own: u32) -> u64
     ensures bound { result ≡ recorded_bound own follows.now core }
     ensures bounds { IsBounds follows.now }
@@ -160,7 +161,7 @@ fn bound_of(follows: &Follows, core: u32, own: u32) -> u64
     bound
 }
 
-// Fills in how far each core is followed.
+/// Fills in how far each core is followed.
 fn fill_bounds(bounds: &mut [u64], follows: &Follows, own: u32)
     requires { length bounds.old ≤ 64 }
     ensures len { length bounds.new ≡ length bounds.old }

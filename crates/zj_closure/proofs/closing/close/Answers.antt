@@ -1,10 +1,10 @@
 use Rattle.std.proofs.Common.{◌≡◌, inl, inr, ℕ, ◌+◌, ◌*◌, ◌≤◌, length, sym, ap, ◌∙◌, subst, arith}
-use Rattle.zj_closure.specs.Found.{records_of, record_count}
+use Rattle.zj_closure.specs.Found.{records_of, record_count, tail_of}
 use Rattle.std.specs.Prelude.{slice_index}
 use Rattle.std.proofs.lemmas.Bool.{cases_lt, cases_eq}
 use Rattle.zj_history.specs.Transactions.{Bounds}
 use Rattle.zj_closure.specs.Kept.{AreKept}
-use Rattle.zj_closure.specs.Growing.{tail_of, IsDone}
+use Rattle.zj_closure.specs.Growing.{IsDone}
 use Rattle.zj_closure.proofs.Growth.{stays_done, all_done, past_done, sum-ends, sum-le}
 use Rattle.zj_closure.proofs.closing.close.Goals as goal
 
