@@ -8,6 +8,7 @@ use Rattle.zj_tree.specs.Apply.{Limits, apply}
 use Rattle.zj_script.specs.declared.answer.Answer.{Answer}
 use Rattle.zj_script.specs.declared.line.Line.{Line}
 use Rattle.zj_script.specs.Answers.{answer_text}
+use Rattle.zj_script.specs.declared.script.TheConstants.{MAX_BYTES}
 use Rattle.zj_script.specs.Script.{IsScript}
 use Rattle.zj_cli.specs.declared.status.Fault.{Fault}
 use Rattle.zj_cli.specs.declared.status.Fault.TheVariants as faults
@@ -29,12 +30,12 @@ answers_from limits tree ticket (line ∷ lines) = answer_to limits tree ticket 
 -- A source gave these bytes, one more at most than a script may have.
 pub record Reads (old new : Option (List ℕ)) (read : List ℕ) : Type 0 where
   pub gave : Gave old new read
-  pub at_most : length read ≤ 16777217
+  pub at_most : length read ≤ MAX_BYTES + 1
 
 -- It gave all that it had, or that one byte more.
 pub record ReadsInput (old new : Option (List ℕ)) (read : List ℕ) : Type 0 where
   pub reads : Reads old new read
-  pub to_end : IfSome new (λ rest. rest ≡ []) ⊎ (length read ≡ 16777217)
+  pub to_end : IfSome new (λ rest. rest ≡ []) ⊎ (length read ≡ MAX_BYTES + 1)
 
 -- What was read is a script for so many cores, and the answers to its lines, from a tree on, were written but for the rest.
 pub record Plays (cores : ℕ) (limits : Limits) (tree : FileTree) (before after : Outside) (rest : List ℕ) : Type 0 where

@@ -1,5 +1,6 @@
 -- The devices of an image that are out of their shelf, and what stands under their names.
 use Rattle.std.specs.Prelude.{◌≡◌, ◌≢◌, ℕ, ◌<◌, List, MatchOption, slice_get, bytes_eq, if◌then◌else◌}
+use Rattle.zj_block.specs.declared.sizes.TheConstants.{MAX_CORES}
 use Rattle.zj_dev.specs.Disk.{DiskView, OnlyReads}
 use Rattle.zj_dev.specs.Shelf.{ShelfView, Slot, Untold, Absent, Out, Stands}
 use Rattle.zj_dev.specs.Device.{device_name}
@@ -19,7 +20,7 @@ with_slot name slot names other = if bytes_eq other name then slot else names ot
 
 -- the name of no core's journal
 abbrev pub IsNoJournal : List ℕ → Type 0
-IsNoJournal name = (core : ℕ) → core < 8 → name ≢ journal_name core
+IsNoJournal name = (core : ℕ) → core < MAX_CORES → name ≢ journal_name core
 
 -- A device stood there and has this property, and the slot is now that one.
 abbrev pub WentTo : Slot → (DiskView → Type 0) → Slot → Slot → Type 0
@@ -50,17 +51,17 @@ IsBack Out now = now ≡ Out
 -- Home and each journal stand where they stood, and were only read; all other names have what they had.
 pub record AllBack (before now : ShelfView) : Type 0 where
   pub home : IsBack (before home_name) (now home_name)
-  pub journals : (core : ℕ) → core < 8 → IsBack (before (journal_name core)) (now (journal_name core))
+  pub journals : (core : ℕ) → core < MAX_CORES → IsBack (before (journal_name core)) (now (journal_name core))
   pub others : (name : List ℕ) → name ≢ home_name → IsNoJournal name → now name ≡ before name
 
 -- Home and the journals of these areas, from core 0 on, are out, and all else is back.
 pub record IsOut {D : Type 0} (view : D → DiskView) (before now : ShelfView) (home : DiskView) (areas : List (AreaView D)) : Type 0 where
   pub home_lent : IsLent (before home_name) (now home_name) home
-  pub journals : (core : ℕ) → core < 8 → MatchOption (slice_get areas core) (IsBack (before (journal_name core)) (now (journal_name core))) (λ area. IsLent (before (journal_name core)) (now (journal_name core)) (view area.device))
+  pub journals : (core : ℕ) → core < MAX_CORES → MatchOption (slice_get areas core) (IsBack (before (journal_name core)) (now (journal_name core))) (λ area. IsLent (before (journal_name core)) (now (journal_name core)) (view area.device))
   pub others : (name : List ℕ) → name ≢ home_name → IsNoJournal name → now name ≡ before name
 
 -- These devices stand where they stood, and were only read; so does all else.
 pub record IsClosed {D : Type 0} (view : D → DiskView) (before now : ShelfView) (home : DiskView) (areas : List (AreaView D)) : Type 0 where
   pub home_back : IsPutBack (before home_name) (now home_name) home
-  pub journals : (core : ℕ) → core < 8 → MatchOption (slice_get areas core) (IsBack (before (journal_name core)) (now (journal_name core))) (λ area. IsPutBack (before (journal_name core)) (now (journal_name core)) (view area.device))
+  pub journals : (core : ℕ) → core < MAX_CORES → MatchOption (slice_get areas core) (IsBack (before (journal_name core)) (now (journal_name core))) (λ area. IsPutBack (before (journal_name core)) (now (journal_name core)) (view area.device))
   pub others : (name : List ℕ) → name ≢ home_name → IsNoJournal name → now name ≡ before name

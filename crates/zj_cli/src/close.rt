@@ -1,6 +1,7 @@
 //! The devices of an image, put back into their shelf in order.
 
 ghost use Rattle.std.specs.Prelude.{◌≡◌, ◌≢◌, ℕ, List, ◌<◌, ◌≤◌, IfErr, IfSome, OnOk, slice_get, length};
+ghost use Rattle.zj_block.specs.declared.sizes.TheConstants.{MAX_CORES};
 ghost use Rattle.zj_dev.specs.Fault.{Rose};
 ghost use Rattle.zj_dev.specs.Shelf.{ShelfView, OthersStay, Closes};
 ghost use Rattle.zj_cli.specs.declared.status.Fault.TheVariants as faults;
@@ -32,7 +33,7 @@ fn put_back<H: Shelf>(shelf: &mut H, device: Device, name: &str, d: H::D) -> Res
 ///
 /// The fault is of the first device that the shelf failed to close; all are back in any case.
 fn close_areas<H: Shelf>(shelf: &mut H, areas: Vec<Area<H::D>>) -> Result<(), Fault>
-    requires { length areas.items ≤ 8 }
+    requires { length areas.items ≤ MAX_CORES }
     ensures closed { (core : ℕ) → core < length areas.items → IfSome (slice_get areas.items core) (λ area. Closes (H.D.view area.device) (H.names shelf.old (journal_name core)) (H.names shelf.new (journal_name core))) }
     ensures others { (name : List ℕ) → ((core : ℕ) → core < length areas.items → name ≢ journal_name core) → H.names shelf.new name ≡ H.names shelf.old name }
     ensures cause { IfErr result (λ fault. IsOfJournal (length areas.items) fault × Rose (H.faults shelf.old) (H.faults shelf.new)) }
@@ -60,7 +61,7 @@ pub(crate) fn close_set<H: Shelf>(
     home: Home<H::D>,
     areas: Vec<Area<H::D>>,
 ) -> Result<(), Fault>
-    requires { length areas.items ≤ 8 }
+    requires { length areas.items ≤ MAX_CORES }
     ensures closed { (before : ShelfView) → IsOut H.D.view before (H.names shelf.old) (H.D.view home.device) areas.items → IsClosed H.D.view before (H.names shelf.new) (H.D.view home.device) areas.items }
     ensures cause { IfErr result (λ fault. IsOfSet (length areas.items) fault × Rose (H.faults shelf.old) (H.faults shelf.new)) }
     ensures quiet { OnOk result (H.faults shelf.new ≡ H.faults shelf.old) }
@@ -78,7 +79,7 @@ pub(crate) fn close_refused<H: Shelf>(
     areas: Vec<Area<H::D>>,
     refused: Option<H::D>,
 )
-    requires { length areas.items < 8 }
+    requires { length areas.items < MAX_CORES }
     ensures back { (before mid : ShelfView) (super : Super) → OthersStay home_name before mid → IsLent (before home_name) (mid home_name) (H.D.view home.device)
         → StopsOpening H.D.view mid (H.names shelf.old) super areas.items refused → AllBack before (H.names shelf.new) }
     ensures no_fewer { H.faults shelf.old ≤ H.faults shelf.new }

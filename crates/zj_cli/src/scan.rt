@@ -1,6 +1,7 @@
 //! Reading the journals of an image.
 
 ghost use Rattle.std.specs.Prelude.{◌≡◌, ◌≤◌, [], IfOk, IfErr, OnOk, length};
+ghost use Rattle.zj_block.specs.declared.sizes.TheConstants.{MAX_CORES};
 ghost use Rattle.zj_dev.specs.Disk.{OnlyReads};
 ghost use Rattle.zj_cli.specs.Scanning.{AreCounted, AreRead, HoldsSome, IsAreaCause, StopsAt};
 
@@ -37,7 +38,7 @@ fn scan_one<D: Disk>(area: &mut Area<D>, core: u32) -> Result<usize, Fault>
 /// How many records each journal holds, in the order of the cores. After a fault the counts are those of the
 /// journals before it.
 pub fn scan_all<D: Disk>(areas: &mut [Area<D>], counts: &mut Vec<usize>) -> Result<(), Fault>
-    requires few { length areas.old ≤ 8 }
+    requires few { length areas.old ≤ MAX_CORES }
     requires none { counts.old.items ≡ [] }
     ensures counted { OnOk result (AreCounted D.view areas.old counts.new.items (length areas.old)) }
     ensures read { AreRead D.view areas.old areas.new }

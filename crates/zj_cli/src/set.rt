@@ -1,6 +1,7 @@
 //! The devices of an image: taken out of their shelf in order, and put back.
 
 ghost use Rattle.std.specs.Prelude.{◌≡◌, ◌<◌, ◌≤◌, ◌^◌, [], None, Some, IfOk, IfErr, OnOk, OnErr, ◌⊎◌, MatchOption, slice_get, string_bytes, length};
+ghost use Rattle.zj_block.specs.declared.sizes.TheConstants.{MAX_CORES};
 ghost use Rattle.zj_dev.specs.declared.device.Device.TheVariants as devices;
 ghost use Rattle.zj_dev.specs.Device.{device_name};
 ghost use Rattle.zj_dev.specs.Fault.{Rose};
@@ -23,7 +24,7 @@ pub(crate) const HOME: &str = "home";
 
 /// The name of a core's journal.
 pub(crate) fn journal_name(core: u32) -> &'static str
-    requires { core < 8 }
+    requires { core < MAX_CORES }
     ensures { result.now ≡ journal_name core }
 {
     match core {
@@ -161,7 +162,7 @@ fn open_journals<H: Shelf>(
 ) -> Result<(), Refused<H::D>>
     requires { areas.old.items ≡ [] }
     ensures opened { OnOk result (AreOpened H.D.view (H.names shelf.old) (H.names shelf.new) home.now.told home.now.told.sizes.cores areas.new.items) }
-    ensures few { OnOk result (length areas.new.items ≤ 8) }
+    ensures few { OnOk result (length areas.new.items ≤ MAX_CORES) }
     ensures stops { IfErr result (λ refused. StopsOpening H.D.view (H.names shelf.old) (H.names shelf.new) home.now.told areas.new.items refused.device) }
     ensures cause { IfErr result (λ refused. IsJournalsCause (H.names shelf.old) (H.faults shelf.old) (H.faults shelf.new) home.now.told refused.fault) }
     ensures quiet { OnOk result (H.faults shelf.new ≡ H.faults shelf.old) }

@@ -3,6 +3,7 @@ use Rattle.std.specs.Prelude.{◌≡◌, ℕ, ◌<◌, ◌≤◌, List, [], ◌�
 use Rattle.std.specs.List.{enumerate_from}
 use Rattle.std.specs.Str.{byte}
 use Rattle.zj_script.specs.declared.line.Line.{Line}
+use Rattle.zj_script.specs.declared.script.TheConstants.{MAX_BYTES, MAX_LINES}
 use Rattle.zj_script.specs.Calls.{call_words, has_spelling}
 use Rattle.zj_script.specs.Parts.{parts_of}
 use Rattle.zj_script.specs.Words.{spelled}
@@ -44,7 +45,7 @@ numbered_text line = (line.number, spelled (line_words line))
 -- The input is a script of these lines: at most 16,777,216 bytes and 65,536 lines, which are numbered from 1 and spelled by the
 -- lines of the input.
 pub record IsScript (cores : ℕ) (input : List ℕ) (lines : List Line) : Type 0 where
-  pub bytes_at_most : length input ≤ 16777216
-  pub lines_at_most : length (lines_of input) ≤ 65536
+  pub bytes_at_most : length input ≤ MAX_BYTES
+  pub lines_at_most : length (lines_of input) ≤ MAX_LINES
   pub texts : map numbered_text lines ≡ enumerate_from 1 (lines_of input)
   pub can_stand : All (CanStand cores) lines
