@@ -1,5 +1,5 @@
 -- Frozen transactions, and what is kept of their operations.
-use Rattle.std.proofs.Common.{◌≡◌, ◌≢◌, ◌⊎◌, inl, inr, ℕ, suc, ◌+◌, ◌<◌, ◌≤◌, max, true, false, cond, eqb, eq-eqb, ne_eqb, List, [], ◌∷◌, ◌++◌, length, replicate, Option, Some, None, refl, sym, ap, ◌∙◌, arith, append_assoc, append-nil}
+use Rattle.std.proofs.Common.{◌≡◌, ◌⊎◌, inl, inr, ℕ, suc, ◌+◌, ◌<◌, ◌≤◌, max, true, false, cond, eqb, eq-eqb, ne_eqb, List, [], ◌∷◌, ◌++◌, length, replicate, Option, Some, None, refl, sym, ap, ◌∙◌, arith, append_assoc, append-nil}
 use Rattle.std.specs.Prelude.{slice_index, filter, Contains, is_some, is_none}
 use Rattle.std.specs.FinMap as map_of
 use Rattle.std.proofs.lemmas.List.{get_or-replicate, get_or_past}
@@ -11,7 +11,7 @@ use Rattle.std.specs.Option.{option_map, option_or}
 use Rattle.std.proofs.lemmas.Bool.{cases_eq, cases_lt}
 use Rattle.std.proofs.lemmas.List.Elements.{filter-append, All-head, All-tail}
 use Rattle.zj_block.specs.declared.numbers.Writer.{Writer}
-use Rattle.zj_history.specs.Operation.{Operation, Write, transaction_of, write_of}
+use Rattle.zj_history.specs.Operation.{Operation, Write, transaction_of}
 use Rattle.zj_history.specs.State.{last_write}
 use Rattle.zj_history.specs.Transactions.{is_of, operations_of, writers_found, writers_found_by, bound_on, dependency_bound}
 use Rattle.zj_history.proofs.Numbers.{own_bound, other_bound, bound_within}

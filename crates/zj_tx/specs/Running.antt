@@ -1,5 +1,5 @@
 -- What the running transaction of a core keeps of its operations.
-use Rattle.std.specs.Prelude.{◌≡◌, ◌≢◌, ℕ, ◌+◌, ◌-◌, ◌<◌, ◌≤◌, ◌^◌, max, min, List, [], length, Option, Some, None, ◌==◌, if◌then◌else◌, slice_index, count_by, is_none}
+use Rattle.std.specs.Prelude.{◌≡◌, ◌≢◌, ℕ, ◌+◌, ◌-◌, ◌<◌, ◌≤◌, ◌^◌, max, min, List, [], length, Option, None, ◌==◌, if◌then◌else◌, slice_index, count_by, is_none}
 use Rattle.std.specs.List.{All, AllByRecursion, flat_map}
 use Rattle.std.specs.FinMap as map_of
 use Rattle.std.specs.Option.{ForSome, IsSomeAnd, option_map, option_or}

@@ -1,11 +1,10 @@
-use Rattle.std.proofs.Common.{◌≡◌, ℕ, ◌+◌, ◌<◌, ◌≤◌, true, false, cond, List, length, take, add-one, sym, ap, ◌∙◌, arith}
+use Rattle.std.proofs.Common.{◌≡◌, ℕ, ◌+◌, ◌<◌, ◌≤◌, true, false, cond, List, length, take, sym, ap, ◌∙◌, arith}
 use Rattle.std.specs.Prelude.{slice_get, is_none, is_ok}
 use Rattle.std.specs.FinMap as map_of
 use Rattle.std.specs.List.{count_by}
 use Rattle.std.specs.Option.{option_or}
 use Rattle.std.specs.Ordering.{nat_cmp}
 use Rattle.std.specs.Vec.{vec_capacity}
-use Rattle.zj_tx.specs.declared.part.Part.{Part}
 use Rattle.zj_tx.specs.Frozen.{image_in}
 use Rattle.zj_tx.specs.Running.{stamped}
 use Rattle.zj_tx.specs.Parts.{IsPut}

@@ -1,4 +1,4 @@
-use Rattle.std.proofs.Common.{rules, of_calls, ◌≡◌, ℕ, ◌<◌, ltb, ltb-true, ltb-false, get_or, arith}
+use Rattle.std.proofs.Common.{rules, of_calls, ltb, ltb-true, ltb-false, get_or, arith}
 use Rattle.std.proofs.lemmas.Fn.{always_returns_same}
 use Rattle.std.proofs.lemmas.List.Sorted.{IsPartitionedBy-ltb}
 use Rattle.zj_tx.specs.declared.part.Part.{Part}

@@ -1,4 +1,4 @@
-use Rattle.std.proofs.Common.{◌∙◌, sym, ap, cond, eq-eqb, ne_eqb}
+use Rattle.std.proofs.Common.{◌∙◌, sym, ap, cond, ne_eqb}
 use Rattle.std.specs.Prelude.{slice_index}
 use Rattle.std.specs.Option.{unwrap_or}
 use Rattle.std.proofs.lemmas.Option.{unwrap_or-slice_get}

@@ -1,10 +1,7 @@
-use Rattle.std.proofs.Common.{◌≡◌, ℕ, ◌+◌, ◌≤◌, true, List, length, Option, Some, None, Result, Ok, Err, refl, sym, ap, ◌∙◌, subst, arith}
+use Rattle.std.proofs.Common.{◌≡◌, ℕ, ◌+◌, ◌≤◌, true, List, Option, Some, None, Result, Ok, Err, refl, sym, ap, ◌∙◌, subst, arith}
 use Rattle.std.specs.Prelude.{OnOk, is_ok}
-use Rattle.std.specs.List.{AllByRecursion}
 use Rattle.std.specs.Option.{IsSomeAnd}
-use Rattle.zj_block.specs.declared.sizes.TheConstants.{MAX_RECORD_BLOCKS}
 use Rattle.zj_tx.specs.declared.part.Part.{Part}
-use Rattle.zj_tx.specs.Record.{IsPart}
 use Rattle.zj_tx.specs.Parts.{ArePut}
 use Rattle.zj_tx.specs.Running.{Transaction, new_count}
 use Rattle.zj_tx.proofs.running.Running.add.Goals as goal

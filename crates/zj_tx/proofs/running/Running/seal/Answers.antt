@@ -1,8 +1,7 @@
-use Rattle.std.proofs.Common.{◌≡◌, ◌≢◌, ℕ, ◌≤◌, List, length, sym, ap, ◌∙◌, subst, arith}
-use Rattle.std.specs.List.{AllByRecursion}
+use Rattle.std.proofs.Common.{◌≡◌, ◌≢◌, ℕ, List, sym, ap, ◌∙◌, subst, arith}
 use Rattle.std.proofs.lemmas.List.{with_items_is}
 use Rattle.zj_tx.specs.declared.part.Part.{Part}
-use Rattle.zj_tx.specs.Record.{Ascends, IsPart, IsRecord, record_of}
+use Rattle.zj_tx.specs.Record.{IsRecord, record_of}
 use Rattle.zj_tx.specs.Running.{Transaction}
 use Rattle.zj_tx.proofs.running.Running.seal.Goals as goal
 
