@@ -12,8 +12,13 @@ Usage:
 
 play
 A script has one call a line, each with the core that makes it:
-  0 mkdir PATH    makes an empty directory
-  0 list PATH     prints the names in a directory, ascending
+  0 mkdir PATH        makes an empty directory
+  0 create PATH       makes an empty file
+  0 unlink PATH       removes a file
+  0 rmdir PATH        removes a directory that has no entries
+  0 rename PATH PATH  gives what stands at the first path the second one
+  0 list PATH         prints the names in a directory, ascending
+  0 stat PATH         prints what stands at a path, and how large it is
 A path is / or names behind slashes, as /mail/new: at most 16 names, each of 1 to
 26 of the letters a to z and A to Z, digits, and . _ - (but not . or .. alone).
 A script has at most 65,536 lines and 16,777,216 bytes.

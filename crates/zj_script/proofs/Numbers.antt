@@ -1,7 +1,7 @@
 -- Decimal numbers and the words that spell them.
-use Rattle.std.proofs.Common.{◌≡◌, ◌≢◌, ℕ, zero, suc, ◌<◌, ◌≤◌, ◌^◌, ◌⊎◌, inl, inr, List, [], ◌∷◌, length, get_or, Option, Some, None, Result, Ok, Err, IfSome, IfNone, decimal, IsTrue, refl, sym, ap, ◌∙◌, subst, arith}
+use Rattle.std.proofs.Common.{◌≡◌, ◌≢◌, ℕ, zero, suc, ◌<◌, ◌^◌, inl, inr, List, length, get_or, Result, Ok, Err, IfSome, IfNone, decimal, sym, ap, ◌∙◌, arith}
 use Rattle.std.specs.Str.Parse.{AllDigits, digits_value, ParsesUnsigned}
-use Rattle.std.specs.Result.{OkIff, result_ok}
+use Rattle.std.specs.Result.{result_ok}
 use Rattle.std.proofs.lemmas.Fmt.{decimal_digit, decimal_is_IsNumeral, first_decimal, decimal-digits_value, parse-decimal}
 use Rattle.std.proofs.lemmas.Str.Parse.{IsNumeralModel, numerals_by_value, tells_digits, digit_at, parse_plain}
 use Rattle.zj_script.specs.Number.{BeginsNumber}

@@ -1,15 +1,39 @@
 -- The words of calls.
-use Rattle.std.specs.Prelude.{ℕ, Bool, List, [], ◌∷◌, codes}
+use Rattle.std.specs.Prelude.{ℕ, Bool, false, ◌&&◌, List, [], ◌∷◌, codes}
 use Rattle.zj_tree.specs.declared.call.Call.{Call}
 use Rattle.zj_tree.specs.declared.call.Call.TheVariants as calls
 use Rattle.zj_tree.specs.Path.{path_text, is_path}
+use Rattle.zj_script.specs.declared.verb.Verb.{Verb}
+use Rattle.zj_script.specs.declared.verb.Verb.TheVariants as verbs
 
--- the words of a call
+-- the word of a verb
+abbrev pub verb_word : Verb → List ℕ
+verb_word verbs.Mkdir = codes "mkdir"
+verb_word verbs.Create = codes "create"
+verb_word verbs.Unlink = codes "unlink"
+verb_word verbs.Rmdir = codes "rmdir"
+verb_word verbs.Rename = codes "rename"
+verb_word verbs.List = codes "list"
+verb_word verbs.Stat = codes "stat"
+
+-- the words of a call; none of those that have no line yet
 abbrev pub call_words : Call → List (List ℕ)
-call_words (calls.Mkdir path) = codes "mkdir" ∷ path_text path ∷ []
-call_words (calls.List path) = codes "list" ∷ path_text path ∷ []
+call_words (calls.Mkdir path) = verb_word verbs.Mkdir ∷ path_text path ∷ []
+call_words (calls.Create path) = verb_word verbs.Create ∷ path_text path ∷ []
+call_words (calls.Unlink path) = verb_word verbs.Unlink ∷ path_text path ∷ []
+call_words (calls.Rmdir path) = verb_word verbs.Rmdir ∷ path_text path ∷ []
+call_words (calls.Rename from to) = verb_word verbs.Rename ∷ path_text from ∷ path_text to ∷ []
+call_words (calls.List path) = verb_word verbs.List ∷ path_text path ∷ []
+call_words (calls.Stat path) = verb_word verbs.Stat ∷ path_text path ∷ []
+call_words call = []
 
--- whether a call's paths can be spelled
+-- whether a call has a line: its paths can be spelled, and it is none of those that have no line yet
 abbrev pub has_spelling : Call → Bool
 has_spelling (calls.Mkdir path) = is_path path
+has_spelling (calls.Create path) = is_path path
+has_spelling (calls.Unlink path) = is_path path
+has_spelling (calls.Rmdir path) = is_path path
+has_spelling (calls.Rename from to) = is_path from && is_path to
 has_spelling (calls.List path) = is_path path
+has_spelling (calls.Stat path) = is_path path
+has_spelling call = false

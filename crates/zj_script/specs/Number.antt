@@ -1,5 +1,5 @@
 -- How a decimal number begins.
-use Rattle.std.specs.Prelude.{◌≡◌, ℕ, ◌<◌, ◌≤◌, ◌⊎◌, List, ◌∷◌, [], length, slice_index}
+use Rattle.std.specs.Prelude.{◌≡◌, ℕ, ◌≤◌, ◌⊎◌, List, ◌∷◌, [], slice_index}
 use Rattle.std.specs.Str.{byte}
 
 -- It is a zero alone, or begins with another digit.

@@ -7,10 +7,17 @@ use zj_tree::{Bytes, Name, Names, Refusal, Reply};
 
 #[test]
 fn reads_scripts(rt: HostRuntime) -> Result<(), Fail> {
-    let table: [(u32, &[u8], Option<usize>); 16] = [
+    let table: [(u32, &[u8], Option<usize>); 19] = [
         (1, b"", Some(0)),
         (1, b"0 mkdir /a\n0 list /\n", Some(2)),
         (1, b"0 mkdir /a\n0 list /", Some(2)),
+        (
+            1,
+            b"0 create /a\n0 stat /a\n0 rename /a /b\n0 unlink /b\n0 rmdir /c\n",
+            Some(5),
+        ),
+        (1, b"0 rename /a\n", None),
+        (1, b"0 stat /a /b\n", None),
         (11, b"10 list /\n0 list /\n", Some(2)),
         (10, b"10 list /\n", None),
         (1, b"0 mkdir a\n", None),

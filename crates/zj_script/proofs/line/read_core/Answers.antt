@@ -1,4 +1,4 @@
-use Rattle.std.proofs.Common.{◌≡◌, ◌<◌, decimal, sym, ◌∙◌, arith}
+use Rattle.std.proofs.Common.{◌≡◌, decimal, sym, ◌∙◌, arith}
 use Rattle.std.proofs.lemmas.Fmt.{decimal_injective}
 use Rattle.zj_script.proofs.line.read_core.Goals as goal
 

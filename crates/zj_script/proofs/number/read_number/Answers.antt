@@ -1,4 +1,4 @@
-use Rattle.std.proofs.Common.{◌≡◌, ◌<◌, ◌^◌, ℕ, Bool, List, IsTrue, Option, IfSome, IfNone, decimal, arith, refl, sym, subst}
+use Rattle.std.proofs.Common.{ℕ, List, decimal, arith, refl, sym, subst}
 use Rattle.std.specs.Str.{IsUtf8}
 use Rattle.std.specs.Str.Parse.{ParsesUnsigned}
 use Rattle.std.proofs.lemmas.Fmt.{IsAscii-decimal}

@@ -29,5 +29,5 @@ returns-else-is_empty-clause-none c line h =
     let words = c.new-words.ensures ∙ line_back c.args.cores c.args.number c.args.text.now line (omega arith) h in
     let left : parts_left c.read_core.new.words ≡ call_words line.call = cc (c.in-Some.ensures.some.1) in
     let some = rw c.in-Some-2.is at c.in_ok-call.ensures.some in
-    let none = no_more_words c.in-Some-2.call line.call _ (sym left ∙ some.1) in
+    let none = no_more_words c.in-Some-2.call line.call _ some.0 h.can_stand.call (sym left ∙ some.1) in
     cc (c.if-is_empty.ensures.1 none)

@@ -1,4 +1,4 @@
-use Rattle.std.proofs.Common.{◌≡◌, ◌↔◌, ℕ, Bool, true, false, not, List, [], Option, Some, None, option_copied, Bor, IsTrue, refl, sym}
+use Rattle.std.proofs.Common.{◌≡◌, ◌↔◌, ℕ, Bool, true, false, not, List, [], Option, Some, None, option_copied, Bor, IsTrue, refl}
 use Rattle.std.specs.Option.{is_some}
 use Rattle.zj_script.specs.Parts.{parts_of_any}
 use Rattle.zj_script.proofs.Splitting.{some_part}

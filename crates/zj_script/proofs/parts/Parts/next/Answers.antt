@@ -1,5 +1,5 @@
-use Rattle.std.proofs.Common.{◌≡◌, List, ℕ, Option, sym, ◌∙◌, ap, option_copied}
-use Rattle.zj_script.specs.Parts.{parts_left, parts_of, parts_of_any}
+use Rattle.std.proofs.Common.{◌≡◌, sym, ◌∙◌}
+use Rattle.zj_script.specs.Parts.{parts_left, parts_of}
 use Rattle.zj_script.proofs.Splitting.{part_ends, part_is_all}
 use Rattle.zj_script.proofs.parts.Parts.next.Goals as goal
 
