@@ -18,7 +18,8 @@ use Rattle.zj_tree.proofs.OrderLemmas.{Entries, paths_total, paths_exact, conten
 use Rattle.zj_tree.proofs.SumLemmas.{sum_put, sum_over_keys, sum_differs, sum_zero, find_place}
 use Rattle.zj_tree.proofs.RootLemmas.{count, blocks_by, used_among}
 
-abbrev Path' : Type 0
+-- a path, as a list of names
+abbrev pub Path' : Type 0
 Path' = List (List ℕ)
 
 -- paths that tie are equal, and equal paths tie
@@ -132,20 +133,20 @@ module _ (es : Entries) (sorted : T (is_sorted path_cmp es)) (dir : Path') (c : 
           let o : directory_blocks (old e.0) ≡ directory_blocks (old dir) = ap (λ p. directory_blocks (old p)) (sym is) in
           omega arith
 
-module _ (es : Entries) (sorted : T (is_sorted path_cmp es)) (path : Path') (c : Content) (some : 0 < length path) (none : find path_cmp path es ≡ None) where
-  -- a new entry counts in its directory
-  new_count : (dir : Path') → count (put path_cmp path c es) dir ≡ count es dir + cond (is_in dir path) 1 0
-  new_count dir =
-      let one = λ (p : Path'). cond (is_in dir p) 1 0 in
-      sum_over_keys one (put path_cmp path c es)
-      ∙ sum_put path_cmp (λ (e : List (List ℕ) × Content). one e.0) path c es none
-      ∙ ap (λ n. n + cond (is_in dir path) 1 0) (sym (sum_over_keys one es))
+-- a new entry counts in its directory
+pub new_count : (es : Entries) (path : Path') (c : Content) → find path_cmp path es ≡ None → (dir : Path') → count (put path_cmp path c es) dir ≡ count es dir + cond (is_in dir path) 1 0
+new_count es path c none dir =
+    let one = λ (p : Path'). cond (is_in dir p) 1 0 in
+    sum_over_keys one (put path_cmp path c es)
+    ∙ sum_put path_cmp (λ (e : List (List ℕ) × Content). one e.0) path c es none
+    ∙ ap (λ n. n + cond (is_in dir path) 1 0) (sym (sum_over_keys one es))
 
+module _ (es : Entries) (sorted : T (is_sorted path_cmp es)) (path : Path') (c : Content) (some : 0 < length path) (none : find path_cmp path es ≡ None) where
   same_count : (dir : Path') → dir ≢ parent path → count (put path_cmp path c es) dir ≡ count es dir
-  same_count dir other = new_count dir ∙ ap (λ b. count es dir + cond b 1 0) (in_no_other dir path other) ∙ omega arith
+  same_count dir other = new_count es path c none dir ∙ ap (λ b. count es dir + cond b 1 0) (in_no_other dir path other) ∙ omega arith
 
   more_count : count (put path_cmp path c es) (parent path) ≡ count es (parent path) + 1
-  more_count = new_count (parent path) ∙ ap (λ b. count es (parent path) + cond b 1 0) (in_parent path some)
+  more_count = new_count es path c none (parent path) ∙ ap (λ b. count es (parent path) + cond b 1 0) (in_parent path some)
 
   blocks_put : count es path ≡ 0 → find path_cmp (parent path) es ≡ Some Dir →
       sum_by (blocks_by (count (put path_cmp path c es))) (put path_cmp path c es) + directory_blocks (count es (parent path)) ≡ sum_by (blocks_by (count es)) es + content_blocks c + directory_blocks (count es (parent path) + 1)
@@ -155,8 +156,8 @@ module _ (es : Entries) (sorted : T (is_sorted path_cmp es)) (path : Path') (c :
       let own : directory_blocks (count (put path_cmp path c es) path) ≡ 0 = ap directory_blocks (same_count path (not_in_itself path some) ∙ empty) in
       omega (arith, all, own, one_more es sorted (parent path) Dir dir (count es) (count (put path_cmp path c es)) same_count more_count)
 
--- nothing lies in a path that isn't there
-pub no_children : (tree : FileTree) (path : Path') → IsTree tree → content_at tree path ≡ None → count (entries tree) path ≡ 0
+-- nothing lies in a path that is no directory
+pub no_children : (tree : FileTree) (path : Path') → IsTree tree → content_at tree path ≢ Some Dir → count (entries tree) path ≡ 0
 no_children tree path t none =
     let es = entries tree in
     let one = λ (p : Path'). cond (is_in path p) 1 0 in
@@ -169,10 +170,7 @@ no_children tree path t none =
         let lies = in_one path e.0 h in
         let found = content_found tree e.0 ∙ find_at path_cmp paths_total (entries tree) e.0 i d (entries_sorted tree) lt (tied_itself paths_total e.0) in
         let above = t.prefixes e.0 (length e.0 - 1) (subst IsSome (sym found) refl) (omega (arith, lies.0)) in
-        absurd (clash (sym above ∙ ap (content_at tree) lies.1 ∙ none))
-      where
-        clash : ◌≡◌ {A = Option Content} (Some Dir) None → ⊥
-        clash h = cc
+        absurd (none (sym (ap (content_at tree) lies.1) ∙ above))
 
 -- a path at which nothing stands, in a tree, isn't the root
 pub not_root : (tree : FileTree) (path : Path') → IsTree tree → content_at tree path ≡ None → 0 < length path
@@ -189,9 +187,12 @@ pub entry_takes_blocks : EntryTakesBlocks
 entry_takes_blocks tree path c t none dir =
     let es = entries tree in
     let put_is = entries-insert paths_total tree path c in
-    let blocks = blocks_put es (entries_sorted tree) path c (not_root tree path t none) (sym (content_found tree path) ∙ none) (no_children tree path t none) (sym (content_found tree (parent path)) ∙ dir) in
+    let blocks = blocks_put es (entries_sorted tree) path c (not_root tree path t none) (sym (content_found tree path) ∙ none) (no_children tree path t (λ e. clash (sym none ∙ e))) (sym (content_found tree (parent path)) ∙ dir) in
     let new = used_among (insert tree path c) ∙ ap (λ xs. sum_by (blocks_by (count xs)) xs) put_is in
     omega (arith, blocks, new, used_among tree)
+  where
+    clash : ◌≡◌ {A = Option Content} None (Some Dir) → ⊥
+    clash x = cc
 
 -- the same, by a count of entries
 pub used_with : (tree : FileTree) (path : Path') (c : Content) (n : ℕ) → IsTree tree → content_at tree path ≡ None → content_at tree (parent path) ≡ Some Dir → n ≡ entry_count tree (parent path)

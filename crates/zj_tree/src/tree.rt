@@ -1,12 +1,11 @@
 //! The tree of files, as the plain service keeps it.
 
-ghost use Rattle.std.specs.Prelude.{◌≡◌, ◌≢◌, ◌<◌, ◌≤◌, length, slice_get, option_map, IsTrue, ◌↔◌, IfOk, OnOk, OnErr, Some, None};
+ghost use Rattle.std.specs.Prelude.{◌≡◌, ◌<◌, ◌≤◌, length, take, drop, slice_get, option_map, IsTrue, ◌↔◌, IfOk, OnOk, OnErr, Some, None};
 ghost use Rattle.std.specs.FinMap as map_of;
-ghost use Rattle.zj_tree.specs.Tree.{content_at, root_alone, used, node_count};
-ghost use Rattle.zj_tree.specs.Apply.{apply, reasons, first_refusal, answer, changed, Fits};
+ghost use Rattle.zj_tree.specs.Tree.{IsTree, root_alone, used, node_count};
+ghost use Rattle.zj_tree.specs.Changed.{changed, bytes_of};
+ghost use Rattle.zj_tree.specs.Apply.{apply, reasons, first_refusal, answer, longest_file, Fits};
 ghost use Rattle.zj_tree.specs.Entry.{entry_content};
-ghost use Rattle.zj_tree.specs.Path.{parent};
-ghost use Rattle.zj_tree.specs.declared.content.Content.TheVariants.{Dir};
 
 use crate::bytes::Bytes;
 use crate::call::{Call, Refusal, Reply};
@@ -15,8 +14,10 @@ use crate::path::Path;
 use std::alloc::{AllocError, Global};
 use std::marker::Model;
 
+mod changes;
 mod looks;
 mod reasons;
+mod rename;
 
 /// How many entries a directory has at most.
 pub const MAX_ENTRIES: usize = 192;
@@ -26,6 +27,12 @@ pub const ENTRIES_PER_BLOCK: usize = 16;
 
 /// How many bytes of a file one block holds.
 pub const BYTES_PER_BLOCK: usize = 512;
+
+/// How many bytes a file has at most in version 1, and how many one call reads or writes at most.
+pub const MAX_BYTES: usize = 6144;
+
+/// How many bytes a file has at most in version 2.
+pub const MAX_LONG_FILE: usize = 71680;
 
 /// A tree of files with its limits: the plain service.
 #[derive(Debug, Drop)]
@@ -46,7 +53,7 @@ impl Model for Tree {
 
     ghost view = { λ t. record { limits = record { nodes = t.nodes; room = t.room; version = t.version }; tree = tree_of t.entries.items } };
 
-    ghost invariant = { λ t. IsKept t.entries.items t.blocks t.nodes t.room };
+    ghost invariant = { λ t. IsKept t.entries.items t.blocks t.nodes t.room t.version };
 }
 
 /// What stands at a path, as a tree shows it.
@@ -58,10 +65,11 @@ pub enum Entry<'a> {
 
 impl Tree {
     /// The tree with the root alone. It may grow to `nodes` entries, the root among them, and to `room`
-    /// blocks.
+    /// blocks. In version 1 a file has up to 6,144 bytes, in version 2 up to 71,680.
     pub fn new(alloc: Global, nodes: u32, room: u32, version: u32) -> Result<Self, AllocError>
         requires some { 0 < nodes }
-        requires known { version ≡ 1 }
+        requires first { 1 ≤ version }
+        requires known { version ≤ 2 }
         ensures { IfOk result (λ tree. tree ≡ record { limits = record { nodes = nodes; room = room; version = version }; tree = root_alone }) }
     {
         let mut entries = Vec::new(alloc);
@@ -125,7 +133,8 @@ impl Tree {
 
     /// Puts an entry that fits at a path where nothing stands. `AllocError` changes nothing.
     pub fn add(&mut self, path: &Path, content: Content) -> Result<(), AllocError>
-        requires { Fits self.old.limits self.old.tree path.now content }
+        requires fits { Fits self.old.limits self.old.tree path.now content }
+        requires size { length (bytes_of (Some content)) ≤ longest_file self.old.limits.version }
         ensures ok { OnOk result (self.new.tree ≡ map_of.insert self.old.tree path.now content) }
         ensures limits { self.new.limits ≡ self.old.limits }
         ensures err { OnErr result (self.new ≡ self.old) }
@@ -145,39 +154,66 @@ impl Tree {
         ensures { IfOk result (λ reply. reply ≡ answer call.now self.now.tree) }
     {
         match call {
-            Call::Mkdir { .. } => Ok(Reply::Done),
+            Call::Read { path, at, count } => {
+                let bytes = self.bytes_at(path.as_slice());
+                let part = part_of(bytes, *at as usize, *count as usize);
+                Ok(Reply::Data(Bytes::from_slice(*self.entries.allocator(), part)?))
+            }
             Call::List { path } => Ok(Reply::Listed(self.names_in(path.as_slice())?)),
+            Call::Stat { path } => Ok(self.size_of(path.as_slice())),
+            Call::Mkdir { .. }
+            | Call::Create { .. }
+            | Call::Write { .. }
+            | Call::Truncate { .. }
+            | Call::Unlink { .. }
+            | Call::Rmdir { .. }
+            | Call::Rename { .. }
+            | Call::Fsync { .. } => Ok(Reply::Done),
         }
     }
 
     /// Makes the tree that the call leaves.
     fn change(&mut self, call: &Call) -> Result<(), AllocError>
-        requires { first_refusal (reasons self.old.limits call.now self.old.tree) ≡ None }
+        requires accepted { first_refusal (reasons self.old.limits call.now self.old.tree) ≡ None }
+        requires tree { IsTree self.old.tree }
         ensures ok { OnOk result (self.new.tree ≡ changed call.now self.old.tree) }
         ensures limits { self.new.limits ≡ self.old.limits }
         ensures err { OnErr result (self.new ≡ self.old) }
     {
         match call {
             Call::Mkdir { path } => self.insert(path, Content::Dir),
-            Call::List { .. } => Ok(()),
+            Call::Create { path } => {
+                let empty = Content::File(Bytes::new(*self.entries.allocator()));
+                self.insert(path, empty)
+            }
+            Call::Write { path, at, bytes } => {
+                self.write(path.as_slice(), *at as usize, bytes.as_slice())
+            }
+            Call::Truncate { path, size } => {
+                self.truncate(path.as_slice(), *size as usize);
+                Ok(())
+            }
+            Call::Unlink { path } | Call::Rmdir { path } => {
+                self.remove(path.as_slice());
+                Ok(())
+            }
+            Call::Rename { from, to } => {
+                if from == to {
+                    return Ok(());
+                }
+                self.rename(from, to)
+            }
+            Call::Read { .. } | Call::List { .. } | Call::Stat { .. } | Call::Fsync { .. } => Ok(
+                (),
+            ),
         }
     }
+}
 
-    /// Puts a new entry at its path.
-    fn insert(&mut self, path: &Path, content: Content) -> Result<(), AllocError>
-        requires absent { content_at self.old.tree path.now ≡ None }
-        requires directory { content_at self.old.tree (parent path.now) ≡ Some Dir }
-        requires nodes { node_count self.old.tree ≢ self.old.limits.nodes }
-        requires room { used (map_of.insert self.old.tree path.now content) ≤ self.old.limits.room }
-        ensures ok { OnOk result (self.new.tree ≡ map_of.insert self.old.tree path.now content) }
-        ensures limits { self.new.limits ≡ self.old.limits }
-        ensures err { OnErr result (self.new ≡ self.old) }
-    {
-        let blocks = self.blocks_with(path, &content);
-        let at = self.place_of(path.as_slice());
-        let path = path.copy(*self.entries.allocator())?;
-        self.entries.insert(at, (path, content))?;
-        self.blocks = blocks as u32;
-        Ok(())
-    }
+/// The bytes from a place on, at most so many.
+fn part_of(bytes: &[u8], at: usize, count: usize) -> &[u8]
+    ensures { result.now ≡ take count (drop at bytes.now) }
+{
+    let rest = &bytes[at.min(bytes.len())..];
+    &rest[..count.min(rest.len())]
 }

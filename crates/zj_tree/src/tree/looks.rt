@@ -1,15 +1,17 @@
 //! What stands in a tree, and what it takes up.
 
-ghost use Rattle.std.specs.Prelude.{◌≡◌, ℕ, ◌+◌, ◌^◌, ◌<◌, ◌∷◌, ◌++◌, [], List, length, map, filter, is_some, T, MatchOption, MatchResult, if◌then◌else◌, option_copied, IfOk, IfErr, OnOk, OnErr, Some, None, IsSome, Ok, Err};
+ghost use Rattle.std.specs.Prelude.{◌≡◌, ℕ, ◌+◌, ◌^◌, ◌<◌, ◌∷◌, ◌++◌, [], List, length, map, filter, is_some, T, MatchOption, MatchResult, option_copied, IfOk, IfErr, OnOk, if◌then◌else◌, Some, None, IsSome, Ok, Err, false, true};
 ghost use Rattle.std.specs.FinMap as map_of;
-ghost use Rattle.zj_tree.specs.Tree.{path_cmp, IsTree, content_at, names_in, entry_count, used, is_in, directory_blocks, content_blocks};
-ghost use Rattle.zj_tree.specs.declared.content.Content.TheVariants.{Dir};
-ghost use Rattle.zj_tree.specs.Apply.{is_file, is_behind_file, resolve};
-ghost use Rattle.zj_tree.specs.Path.{parent, last_name};
+ghost use Rattle.zj_tree.specs.Tree.{path_cmp, IsTree, content_at, names_in, entry_count, used, is_in, blocks_for, directory_blocks, content_blocks};
+ghost use Rattle.zj_tree.specs.declared.content.Content.TheVariants.{Dir, File};
+ghost use Rattle.zj_tree.specs.Changed.{bytes_at};
+ghost use Rattle.zj_tree.specs.Apply.{is_file, is_behind_file, resolve, size_of};
+ghost use Rattle.zj_tree.specs.Path.{parent, last_name, same_path};
+ghost use Rattle.zj_tree.specs.Laws.{IsWithin};
 ghost use Rattle.zj_tree.specs.Search.{IsFoundAt, GoesTo};
 
 use super::{BYTES_PER_BLOCK, ENTRIES_PER_BLOCK, Tree};
-use crate::call::Refusal;
+use crate::call::{Refusal, Reply};
 use crate::content::Content;
 use crate::name::Name;
 use crate::path::{Names, Path};
@@ -22,13 +24,16 @@ impl Tree {
         ensures entries { result.now ≡ map_of.entries self.now.tree }
         ensures few { length result.now < 2 ^ 32 }
         ensures tree { IsTree self.now.tree }
+        ensures within { IsWithin self.now.limits self.now.tree }
     {
         &self.entries
     }
 
     /// What stands at a path.
     pub(super) fn content_at(&self, path: &[Name]) -> Option<&Content>
-        ensures { option_copied result ≡ content_at self.now.tree path.now }
+        ensures value { option_copied result ≡ content_at self.now.tree path.now }
+        ensures tree { IsTree self.now.tree }
+        ensures within { IsWithin self.now.limits self.now.tree }
     {
         let entries = self.entries();
         match search(entries, path) {
@@ -47,6 +52,49 @@ impl Tree {
         }
     }
 
+    /// Where the entry of a path stands.
+    pub(super) fn place_at(&self, path: &[Name]) -> usize
+        requires { IsSome (content_at self.now.tree path.now) }
+        ensures { IsFoundAt (map_of.entries self.now.tree) path.now result }
+    {
+        match search(self.entries(), path) {
+            Ok(at) | Err(at) => at,
+        }
+    }
+
+    /// The bytes of the file at a path, none where no file is.
+    pub(super) fn bytes_at(&self, path: &[Name]) -> &[u8]
+        ensures value { result.now ≡ bytes_at self.now.tree path.now }
+        ensures tree { IsTree self.now.tree }
+    {
+        match self.content_at(path) {
+            Some(Content::File(bytes)) => bytes.as_slice(),
+            _ => &[],
+        }
+    }
+
+    /// What stands at a path, and how large it is.
+    pub(super) fn size_of(&self, path: &[Name]) -> Reply
+        ensures { result ≡ size_of (content_at self.now.tree path.now) (entry_count self.now.tree path.now) }
+    {
+        match self.file_size(path) {
+            Some(size) => Reply::File { size },
+            None => Reply::Dir {
+                entries: self.entry_count(path) as u32,
+            },
+        }
+    }
+
+    /// How many bytes the file at a path has.
+    fn file_size(&self, path: &[Name]) -> Option<u32>
+        ensures { MatchOption result (is_file (content_at self.now.tree path.now) ≡ false) (λ size. (is_file (content_at self.now.tree path.now) ≡ true) × (size ≡ length (bytes_at self.now.tree path.now))) }
+    {
+        match self.content_at(path) {
+            Some(Content::File(bytes)) => Some(bytes.as_slice().len() as u32),
+            _ => None,
+        }
+    }
+
     /// Whether a file stands on the way to a path.
     fn is_behind_file(&self, path: &[Name]) -> bool
         ensures { result ≡ is_behind_file self.now.tree path.now }
@@ -62,7 +110,8 @@ impl Tree {
 
     /// What a path leads to, or why nothing is found.
     pub(super) fn resolve(&self, path: &[Name]) -> Result<&Content, Refusal>
-        ensures { MatchResult result (λ content. resolve self.now.tree path.now ≡ Ok content.now) (λ refusal. resolve self.now.tree path.now ≡ Err refusal) }
+        ensures found { MatchResult result (λ content. resolve self.now.tree path.now ≡ Ok content.now) (λ refusal. resolve self.now.tree path.now ≡ Err refusal) }
+        ensures tree { IsTree self.now.tree }
     {
         match self.content_at(path) {
             Some(content) => Ok(content),
@@ -105,10 +154,44 @@ impl Tree {
         let more = directory_blocks(entries + 1) - directory_blocks(entries);
         self.used() as usize + content_blocks(content) + more
     }
+
+    /// How many blocks the tree takes up once the file at a path has so many bytes.
+    pub(super) fn blocks_resized(&self, path: &[Name], size: usize) -> usize
+        requires { content_at self.now.tree path.now ≡ Some (File (bytes_at self.now.tree path.now)) }
+        ensures used { (bytes : List ℕ) → length bytes ≡ size → result ≡ used (map_of.insert self.now.tree path.now (File bytes)) }
+        ensures is_tree { (bytes : List ℕ) → IsTree (map_of.insert self.now.tree path.now (File bytes)) }
+    {
+        let before = file_blocks(self.bytes_at(path).len());
+        self.used() as usize - before + file_blocks(size)
+    }
+
+    /// How many blocks the tree takes up without an entry that has no entries itself.
+    pub(super) fn blocks_without(&self, path: &[Name]) -> usize
+        requires there { IsSome (content_at self.now.tree path.now) }
+        requires below_root { 0 < length path.now }
+        requires empty { entry_count self.now.tree path.now ≡ 0 }
+        ensures used { result ≡ used (map_of.remove self.now.tree path.now) }
+        ensures is_tree { IsTree (map_of.remove self.now.tree path.now) }
+    {
+        let entries = self.entry_count(parent_of(path));
+        self.used() as usize + directory_blocks(entries - 1)
+            - directory_blocks(entries)
+            - self.blocks_at(path)
+    }
+
+    /// How many blocks the bytes at a path take up.
+    pub(super) fn blocks_at(&self, path: &[Name]) -> usize
+        ensures { MatchOption (content_at self.now.tree path.now) (result ≡ 0) (λ content. result ≡ content_blocks content) }
+    {
+        match self.content_at(path) {
+            Some(content) => content_blocks(content),
+            None => 0,
+        }
+    }
 }
 
 /// Where the path stands among entries in order, or where it would go.
-fn search(entries: &[(Path, Content)], path: &[Name]) -> Result<usize, usize>
+pub(super) fn search(entries: &[(Path, Content)], path: &[Name]) -> Result<usize, usize>
     requires { T (map_of.is_sorted path_cmp entries.now) }
     ensures found { IfOk result (IsFoundAt entries.now path.now) }
     ensures absent { IfErr result (GoesTo entries.now path.now) }
@@ -116,7 +199,8 @@ fn search(entries: &[(Path, Content)], path: &[Name]) -> Result<usize, usize>
     entries.binary_search_by(|entry| compare(&entry.0, path))
 }
 
-fn compare(path: &Path, other: &[Name]) -> Ordering
+/// How two paths compare.
+pub(super) fn compare(path: &Path, other: &[Name]) -> Ordering
     ensures { result ≡ path_cmp path.now other.now }
 {
     path.as_slice().cmp(other)
@@ -129,6 +213,14 @@ pub(super) fn directory_blocks(entries: usize) -> usize
     entries.div_ceil(ENTRIES_PER_BLOCK)
 }
 
+/// How many blocks so many bytes of a file take up.
+fn file_blocks(bytes: usize) -> usize
+    ensures value { result ≡ blocks_for bytes 512 }
+    ensures few { result < 2 ^ 63 }
+{
+    bytes.div_ceil(BYTES_PER_BLOCK)
+}
+
 /// How many blocks the bytes of a file take up.
 pub(super) fn content_blocks(content: &Content) -> usize
     ensures value { result ≡ content_blocks content.now }
@@ -136,7 +228,7 @@ pub(super) fn content_blocks(content: &Content) -> usize
 {
     match content {
         Content::Dir => 0,
-        Content::File(bytes) => bytes.as_slice().len().div_ceil(BYTES_PER_BLOCK),
+        Content::File(bytes) => file_blocks(bytes.as_slice().len()),
     }
 }
 
@@ -148,6 +240,13 @@ pub(super) fn parent_of(path: &[Name]) -> &[Name]
         [] => path,
         [parent @ .., _] => parent,
     }
+}
+
+/// Whether two paths lie in one directory.
+pub(super) fn are_beside(path: &[Name], other: &[Name]) -> bool
+    ensures { result ≡ same_path (parent path.now) (parent other.now) }
+{
+    parent_of(path) == parent_of(other)
 }
 
 /// Adds the name of a path, if it lies in the directory.
