@@ -19,8 +19,16 @@ A script has one call a line, each with the core that makes it:
   0 rename PATH PATH  gives what stands at the first path the second one
   0 list PATH         prints the names in a directory, ascending
   0 stat PATH         prints what stands at a path, and how large it is
+  0 write PATH NUMBER TEXT
+                      puts bytes into a file from a place on, at its end at the latest
+  0 read PATH NUMBER NUMBER
+                      prints the bytes of a file from a place on, at most so many
+  0 truncate PATH NUMBER
+                      leaves so many first bytes of a file
 A path is / or names behind slashes, as /mail/new: at most 16 names, each of 1 to
 26 of the letters a to z and A to Z, digits, and . _ - (but not . or .. alone).
+A TEXT is the bytes from ! to ~ other than %, and % with two digits of base 16 in
+lower case for each other byte, as a%20b.
 A script has at most 65,536 lines and 16,777,216 bytes.
 
 play starts from the root alone, with room for 8 entries, and prints one line

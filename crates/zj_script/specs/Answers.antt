@@ -1,13 +1,12 @@
 -- Answers, and their one spelling.
-use Rattle.std.specs.Prelude.{ℕ, ◌/◌, ◌%◌, Bool, ◌&&◌, not, List, [], ◌∷◌, ◌++◌, ◌==◌, if◌then◌else◌, codes, decimal}
-use Rattle.std.specs.Char.{digit_char, is_ascii_graphic}
-use Rattle.std.specs.List.{flat_map}
+use Rattle.std.specs.Prelude.{ℕ, List, [], ◌∷◌, ◌++◌, codes, decimal}
 use Rattle.std.specs.Str.{byte}
 use Rattle.zj_tree.specs.declared.call.Reply.{Reply}
 use Rattle.zj_tree.specs.declared.call.Reply.TheVariants as replies
 use Rattle.zj_tree.specs.declared.call.Refusal.{Refusal}
 use Rattle.zj_tree.specs.declared.call.Refusal.TheVariants as refusals
 use Rattle.zj_script.specs.declared.answer.Answer.{Answer}
+use Rattle.zj_script.specs.Text.{bytes_text}
 use Rattle.zj_script.specs.Words.{spelled}
 
 -- the word of a refusal
@@ -24,18 +23,10 @@ refusal_word refusals.NoSpace = codes "nospace"
 refusal_word refusals.DirFull = codes "dirfull"
 refusal_word refusals.PastEnd = codes "pastend"
 
--- a byte that stands for itself: printed, no space, and no percent sign
-abbrev pub is_plain : ℕ → Bool
-is_plain b = is_ascii_graphic b && not (b == byte "%")
-
--- a byte as itself, or as a percent sign and two digits of base 16 in lower case
-abbrev pub byte_text : ℕ → List ℕ
-byte_text b = if is_plain b then b ∷ [] else byte "%" ∷ digit_char (b / 16) ∷ digit_char (b % 16) ∷ []
-
 -- the word of a file's bytes, none where there are no bytes
 abbrev pub data_words : List ℕ → List (List ℕ)
 data_words [] = []
-data_words (b ∷ bytes) = flat_map byte_text (b ∷ bytes) ∷ []
+data_words (b ∷ bytes) = bytes_text (b ∷ bytes) ∷ []
 
 -- the words of a reply
 abbrev pub reply_words : Reply → List (List ℕ)

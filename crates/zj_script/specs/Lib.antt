@@ -1,3 +1,4 @@
+pub mod Text
 pub mod Words
 pub mod Parts
 pub mod Number

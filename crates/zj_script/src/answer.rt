@@ -3,10 +3,12 @@
 ghost use Rattle.std.specs.Prelude.{◌≡◌, ◌∷◌, [], ◌++◌, ◌<◌, OnOk, OnErr, decimal};
 ghost use Rattle.std.specs.Char.{digit_char};
 ghost use Rattle.std.specs.List.{flat_map};
-ghost use Rattle.zj_script.specs.Answers.{answer_text, byte_text, data_words, refusal_word, reply_words};
+ghost use Rattle.zj_script.specs.Answers.{answer_text, data_words, refusal_word, reply_words};
+ghost use Rattle.zj_script.specs.Text.{byte_text};
 ghost use Rattle.zj_script.specs.Words.{spaced, spelled};
 ghost use Rattle.zj_script.specs.Writing.{Adds};
 
+use crate::text::is_plain;
 use std::alloc::{AllocError, Global};
 use zj_tree::{Name, Refusal, Reply};
 
@@ -124,7 +126,7 @@ fn put_data(bytes: &[u8], out: &mut Vec<u8>) -> Result<(), AllocError>
 fn put_byte(byte: u8, out: &mut Vec<u8>) -> Result<(), AllocError>
     ensures { Adds result out.old.items out.new.items (byte_text byte) }
 {
-    if byte.is_ascii_graphic() && byte != b'%' {
+    if is_plain(byte) {
         out.push(byte)?;
         return Ok(());
     }

@@ -14,6 +14,7 @@ mod line;
 mod number;
 mod parts;
 mod script;
+mod text;
 mod verb;
 
 pub use answer::{Answer, write_answer};

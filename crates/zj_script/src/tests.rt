@@ -7,7 +7,7 @@ use zj_tree::{Bytes, Name, Names, Refusal, Reply};
 
 #[test]
 fn reads_scripts(rt: HostRuntime) -> Result<(), Fail> {
-    let table: [(u32, &[u8], Option<usize>); 19] = [
+    let table: [(u32, &[u8], Option<usize>); 27] = [
         (1, b"", Some(0)),
         (1, b"0 mkdir /a\n0 list /\n", Some(2)),
         (1, b"0 mkdir /a\n0 list /", Some(2)),
@@ -16,6 +16,18 @@ fn reads_scripts(rt: HostRuntime) -> Result<(), Fail> {
             b"0 create /a\n0 stat /a\n0 rename /a /b\n0 unlink /b\n0 rmdir /c\n",
             Some(5),
         ),
+        (
+            1,
+            b"0 write /a 0 a%20b%ff\n0 read /a 1 4294967295\n0 truncate /a 2\n",
+            Some(3),
+        ),
+        (1, b"0 write /a 0\n", None),
+        (1, b"0 write /a 0 \n", None),
+        (1, b"0 write /a 00 b\n", None),
+        (1, b"0 write /a 0 %41\n", None),
+        (1, b"0 write /a 0 %2F%0A\n", None),
+        (1, b"0 read /a 4294967296 1\n", None),
+        (1, b"0 fsync /a\n", None),
         (1, b"0 rename /a\n", None),
         (1, b"0 stat /a /b\n", None),
         (11, b"10 list /\n0 list /\n", Some(2)),

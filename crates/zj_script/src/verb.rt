@@ -4,7 +4,7 @@ ghost use Rattle.std.specs.Prelude.{◌≡◌, ◌≢◌, IfSome, IfNone};
 ghost use Rattle.zj_script.specs.declared.verb.Verb.{Verb};
 ghost use Rattle.zj_script.specs.Calls.{verb_word};
 
-/// What a call does. Each has a path behind it, and a renaming two.
+/// What a call does. A path stands behind each.
 #[derive(Clone, Copy, Debug, PartialEq, Eq)]
 pub(crate) enum Verb {
     Mkdir,
@@ -14,6 +14,9 @@ pub(crate) enum Verb {
     Rename,
     List,
     Stat,
+    Write,
+    Read,
+    Truncate,
 }
 
 /// The verb that a word is. None exactly where it is none.
@@ -29,6 +32,9 @@ pub(crate) fn read_verb(word: &[u8]) -> Option<Verb>
         b"rename" => Some(Verb::Rename),
         b"list" => Some(Verb::List),
         b"stat" => Some(Verb::Stat),
+        b"write" => Some(Verb::Write),
+        b"read" => Some(Verb::Read),
+        b"truncate" => Some(Verb::Truncate),
         _ => None,
     }
 }

@@ -1,6 +1,6 @@
 use Rattle.std.proofs.Common.{◌≡◌, ◌++◌, ◌∷◌, take}
 use Rattle.std.specs.List.{flat_map}
-use Rattle.zj_script.specs.Answers.{byte_text}
+use Rattle.zj_script.specs.Text.{byte_text}
 use Rattle.zj_script.proofs.answer.put_data.Given as goal
 
 abbrev pub invariant-loop-byte : goal.invariant-loop-byte
