@@ -38,6 +38,11 @@ abbrev pub seal : Option Write → List ℕ
 seal None = 0 ∷ 0 ∷ 0 ∷ []
 seal (Some w) = w.writer.core ∷ w.writer.number ∷ suc w.ticket ∷ []
 
+-- the stamp of a last write
+abbrev pub stamp_of : Option Write → ℕ
+stamp_of None = 0
+stamp_of (Some w) = suc w.ticket
+
 -- the words of a block after a history
 abbrev pub image : BlockState → List Operation → ℕ → List ℕ
 image start history b = content (after start history) b ++ seal (last_write history b)
