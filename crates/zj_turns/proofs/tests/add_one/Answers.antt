@@ -5,7 +5,7 @@ use Rattle.zj_turns.specs.Views.{Hold, Known, taken, loaded_as, stored_as, hold_
 use Rattle.zj_turns.specs.Passes.{lone}
 use Rattle.zj_turns.proofs.Stamping.{length-seal_of}
 use Rattle.zj_turns.proofs.Again.{holding_again, held_after}
-use Rattle.zj_turns.proofs.Lone.{lone_step, lone_is, lone_holds, lone_hold, holding_only, has_here, idle_again, lone_here}
+use Rattle.zj_turns.proofs.Lone.{lone_step, lone_is, lone_holds, lone_hold, holding_only, has_here, idle_again}
 use Rattle.zj_turns.proofs.tests.add_one.Goals as goal
 
 pub try_take-requires-clause-free : goal.try_take-requires-clause-free
