@@ -1,0 +1,21 @@
+-- What is so of histories by their cores, and of what a load answers.
+use Rattle.std.specs.Prelude.{◌≡◌, ◌↔◌, ℕ, ◌<◌, List, ◌++◌, length, Option, IsNone}
+use Rattle.std.specs.List.{All}
+use Rattle.zj_block.specs.declared.numbers.Writer.{Writer}
+use Rattle.zj_history.specs.Operation.{Operation}
+use Rattle.zj_history.specs.State.{BlockState}
+use Rattle.zj_history.specs.Legal.{IsLegal}
+use Rattle.zj_turns.specs.CacheHistory.{operations_on}
+use Rattle.zj_turns.specs.Views.{found_of, loaded_as, seal_of, stamp_in}
+
+-- A legal history is told by the operations of each core: there are not two with the same ones.
+abbrev pub ToldByCores : Type 0
+ToldByCores = (start : BlockState) (cores : ℕ) (one other : List Operation)
+    → IsLegal start one → IsLegal start other → All (λ o. o.core < cores) one → All (λ o. o.core < cores) other
+    → ((core : ℕ) → core < cores → operations_on core one ≡ operations_on core other) → one ≡ other
+
+-- A block that was loaded was found with that content and that writer, and its words have that stamp.
+abbrev pub LoadedIsFound : Type 0
+LoadedIsFound = (block stamp : ℕ) (content : List ℕ) (writer : Option Writer) → length content ≡ 64 → IsNone writer ↔ (stamp ≡ 0)
+    → (found_of block (loaded_as (content ++ seal_of stamp writer)) ≡ record { block = block; content = content; writer = writer })
+    × (stamp_in (content ++ seal_of stamp writer) ≡ stamp)
