@@ -31,9 +31,10 @@ pub record IsBlank (count : ℕ) (disk : DiskView) : Type 0 where
   pub only : (image : List ℕ) → disk.may_leave disk.calls image ≡ true → image ≡ replicate count 0
   pub is_disk : IsDisk disk
 
--- Creating makes a blank device, which is then out, and answers None exactly where the name is taken.
+-- Creating makes a blank device, which is then out, and answers None exactly where the name is taken. A device that was made has
+-- the length that was asked for, also where the shelf tells nothing of the name.
 abbrev pub Creates : ℕ → Slot → Slot → Option DiskView → Type 0
-Creates size Untold new disk = new ≡ Untold
+Creates size Untold new disk = (new ≡ Untold) × IfSome disk (λ made. made.size ≡ size)
 Creates size Absent new disk = (new ≡ Out) × (made : DiskView) × (disk ≡ Some made) × IsBlank size made
 Creates size Out new disk = (new ≡ Out) × (disk ≡ None)
 Creates size (Stands stood) new disk = (new ≡ Stands stood) × (disk ≡ None)

@@ -1,7 +1,7 @@
 //! Disks and shelves over the files of the system. They tell their counts alone: no contract can say what
 //! a file holds.
 
-ghost use Rattle.std.specs.Prelude.{◌≡◌, ◌+◌, ◌-◌, ◌^◌, ◌<◌, ◌≤◌, ◌↔◌, min, IsTrue, IsErr};
+ghost use Rattle.std.specs.Prelude.{◌≡◌, ◌+◌, ◌-◌, ◌^◌, ◌<◌, ◌≤◌, ◌↔◌, min, IfOk, IfSome, IsTrue, IsErr};
 ghost use Rattle.zj_dev.specs.Fault.{Rose};
 
 use crate::disk::{Disk, DiskFailed};
@@ -67,12 +67,22 @@ impl<F: FileExt + OpenFile + Drop> FileDisk<F> {
         ensures is_disk { IfOk result (λ disk. IsDisk (⟦<FileDisk<F> as Disk>⟧.view disk)) }
     {
         let len = file.metadata()?.len();
-        Ok(FileDisk {
+        Ok(FileDisk::with_len(file, len))
+    }
+
+    /// A disk over the open file, which is to be readable and writable and has that many bytes.
+    fn with_len(file: F, len: u64) -> Self
+        ensures size { (⟦<FileDisk<F> as Disk>⟧.view result).size ≡ len }
+        ensures calls { (⟦<FileDisk<F> as Disk>⟧.view result).calls ≡ 0 }
+        ensures faults { (⟦<FileDisk<F> as Disk>⟧.view result).faults ≡ 0 }
+        ensures is_disk { IsDisk (⟦<FileDisk<F> as Disk>⟧.view result) }
+    {
+        FileDisk {
             file,
             len,
             calls: 0,
             faults: 0,
-        })
+        }
     }
 }
 
@@ -162,6 +172,7 @@ fn fill_with_zeros<F: FileExt>(file: &F, len: u64) -> io::Result<()> {
 fn create_plain<R: Files>(files: &R, name: &str, len: u64) -> io::Result<Option<FileDisk<R::File>>>
 where
     R::File: FileExt,
+    ensures size { IfOk result (λ made. IfSome made (λ disk. disk.len ≡ len)) }
 {
     let created = OpenOptions::new()
         .read(true)
@@ -176,7 +187,7 @@ where
     fill_with_zeros(&file, len)?;
     file.sync_all()?;
     fs::open(files, ".")?.sync_all()?;
-    Ok(Some(FileDisk::new(file)?))
+    Ok(Some(FileDisk::with_len(file, len)))
 }
 
 impl<R: Files> Shelf for FolderShelf<R>
