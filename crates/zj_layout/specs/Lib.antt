@@ -1,0 +1,12 @@
+pub mod Changed
+pub mod Faults
+pub mod Format
+pub mod Graph
+pub mod Image
+pub mod Kept
+pub mod Linked
+pub mod Node
+pub mod Read
+pub mod Rules
+pub mod Shows
+pub mod Stored
