@@ -1,0 +1,10 @@
+pub mod Dropped
+pub mod Entry
+pub mod Holds
+pub mod Laws
+pub mod Leaf
+pub mod Moved
+pub mod Resized
+pub mod Steps
+pub mod Tables
+pub mod Walk
