@@ -1,0 +1,13 @@
+pub mod Looks
+pub mod Nodes
+pub mod Placed
+pub mod Put
+pub mod Removed
+pub mod Searched
+pub mod Seen
+pub mod Stops
+pub mod Tables
+pub mod Trimmed
+pub mod Unwritten
+pub mod Walks
+pub mod Written

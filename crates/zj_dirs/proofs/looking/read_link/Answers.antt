@@ -1,0 +1,23 @@
+-- An entry that is seen is that of every made state.
+use Rattle.std.proofs.Common.{Some, None, sym, ◌∙◌}
+use Rattle.std.specs.Option.{option_copied}
+use Rattle.zj_dirs.specs.Possible.{or_nothing}
+use Rattle.zj_dirs.proofs.Looks.{block_is, entry_seen, entry_odd, slot_16}
+use Rattle.zj_dirs.proofs.looking.read_link.Goals as goal
+
+pub returns-in_default-clause-stop : goal.returns-in_default-clause-stop
+returns-in_default-clause-stop c = (
+  sym c.in_default.ensures.content,
+  λ state tree p. sym (block_is c.args.sizes.now c.args.taken.now (or_nothing (option_copied c.args.written)) state tree p (c.requires.stored state tree p) c.args.dir c.args.node.now (c.requires.node state tree p) c.requires.directory c.args.place),
+)
+
+pub returns-in-Some-link_at-clause-ok : goal.returns-in-Some-link_at-clause-ok
+returns-in-Some-link_at-clause-ok c = λ state tree p.
+    entry_seen c.args.sizes.now c.args.taken.now (or_nothing (option_copied c.args.written)) state tree p (c.requires.stored state tree p) c.args.dir c.args.node.now (c.requires.node state tree p) c.requires.directory c.args.place c.in-Some.content.now c.requires.place (sym c.in-Some.ensures.content)
+    ∙ slot_16 c.args.place _ (Some c.in-Some-link_at.link) c.in-Some-link_at.ensures
+
+pub returns-in-None-clause-stop : goal.returns-in-None-clause-stop
+returns-in-None-clause-stop c = λ state tree p.
+    entry_odd c.args.sizes.now c.args.taken.now (or_nothing (option_copied c.args.written)) state tree p (c.requires.stored state tree p) c.args.dir c.args.node.now (c.requires.node state tree p) c.requires.directory c.args.place c.requires.place
+    (entry_seen c.args.sizes.now c.args.taken.now (or_nothing (option_copied c.args.written)) state tree p (c.requires.stored state tree p) c.args.dir c.args.node.now (c.requires.node state tree p) c.requires.directory c.args.place c.in-Some.content.now c.requires.place (sym c.in-Some.ensures.content)
+    ∙ slot_16 c.args.place _ None c.in-None.ensures)

@@ -1,0 +1,16 @@
+-- The new content changes one entry of every made state.
+use Rattle.std.proofs.Common.{sym}
+use Rattle.zj_dirs.proofs.Seen.{turns_link, data_below}
+use Rattle.zj_dirs.proofs.Written.{still_seen, taken_with}
+use Rattle.zj_dirs.proofs.setting.set_link.Goals as goal
+
+pub returns-clause-done : goal.returns-clause-done
+returns-clause-done c = λ state tree p for_data.
+    turns_link c.args.sizes.now c.args.taken.now c.args.written.now state tree p c.put.new.self c.args.block c.put_link.new.b c.in_ok-put.ensures.ok
+    (data_below c.args.sizes.now c.args.block for_data) c.args.place c.args.link.now c.in-Some.found.now for_data (sym c.in-Some.ensures.content) c.put_link.ensures.here c.put_link.ensures.others
+
+pub returns-clause-kept : goal.returns-clause-kept
+returns-clause-kept c = still_seen c.args.taken.now c.args.written.now c.put.new.self c.args.block c.put_link.new.b c.in_ok-put.ensures.ok
+
+pub returns-clause-taken : goal.returns-clause-taken
+returns-clause-taken c = taken_with c.args.taken.now c.args.written.now c.put.new.self c.args.block c.in-Some.found.now c.put_link.new.b c.in_ok-put.ensures.ok (sym c.in-Some.ensures.content)

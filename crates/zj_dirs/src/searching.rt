@@ -1,0 +1,90 @@
+//! The lowest free node and the lowest free block, over blocks that were taken, with the written ones put in.
+
+ghost use Rattle.std.specs.Prelude.{◌≡◌, ◌<◌, ◌≤◌, ◌↔◌, IfOk, IfErr, IfSome, IsTrue};
+ghost use Rattle.zj_layout.specs.declared.fields.Kind.TheVariants as kinds;
+ghost use Rattle.zj_layout.specs.Node.{byte_in};
+ghost use Rattle.zj_layout.specs.Stored.{IsStored};
+ghost use Rattle.zj_dirs.specs.Looking.{IsLowestBlock, IsLowestNode, IsLowestZero, IsMapSearch, IsNodeSearch};
+ghost use Rattle.zj_dirs.specs.Possible.{Made, Stops};
+
+use crate::answers::Stop;
+use crate::looking::seen;
+use zj_block::{BLOCKS_PER_MAP_BLOCK, Block, BlockNo, NODES_PER_BLOCK, Sizes, Taken, Written};
+use zj_layout::{Kind, Node, node_at};
+
+/// The lowest free node, if one is free.
+pub fn free_node(sizes: &Sizes, taken: &Taken, written: &Written) -> Result<Option<u32>, Stop>
+    requires stored { Made sizes.now taken.now written.now (IsStored sizes.now) }
+    ensures ok { IfOk result (λ found. Made sizes.now taken.now written.now (λ image. IsLowestNode sizes.now image found)) }
+    ensures below { IfOk result (λ found. IfSome found (λ number. number < sizes.now.nodes)) }
+    ensures stop { IfErr result (Stops sizes.now taken.now written.now (IsNodeSearch sizes.now)) }
+{
+    for number in 0..sizes.nodes() {
+        let block = BlockNo(sizes.map_blocks() + number / NODES_PER_BLOCK);
+        let Some(content) = seen(block, taken, Some(written)) else {
+            return Err(Stop::Need(block));
+        };
+        let Some(node) = node_at(content, number % NODES_PER_BLOCK) else {
+            return Err(Stop::Odd);
+        };
+        if is_free(&node) {
+            return Ok(Some(number));
+        }
+    }
+    Ok(None)
+}
+
+// Whether a node is free.
+fn is_free(node: &Node) -> bool
+    ensures { IsTrue result ↔ (node.now.kind ≡ kinds.Free) }
+{
+    match node.kind {
+        Kind::Free => true,
+        Kind::File => false,
+        Kind::Dir => false,
+    }
+}
+
+/// The lowest free block, if one is free.
+pub fn free_block(sizes: &Sizes, taken: &Taken, written: &Written) -> Result<Option<u32>, Stop>
+    ensures ok { IfOk result (λ found. Made sizes.now taken.now written.now (λ image. IsLowestBlock sizes.now image found)) }
+    ensures stop { IfErr result (Stops sizes.now taken.now written.now (IsMapSearch sizes.now)) }
+{
+    for k in 0..sizes.map_blocks() {
+        let first = k * BLOCKS_PER_MAP_BLOCK;
+        let Some(content) = seen(BlockNo(k), taken, Some(written)) else {
+            return Err(Stop::Need(BlockNo(k)));
+        };
+        let count = BLOCKS_PER_MAP_BLOCK.min(sizes.blocks() - first);
+        match free_byte(content, count) {
+            Some(place) => return Ok(Some(first + place)),
+            None => {}
+        }
+    }
+    Ok(None)
+}
+
+// The lowest of the first bytes of a block of the map that is 0.
+fn free_byte(content: &Block, count: u32) -> Option<u32>
+    requires { count ≤ 512 }
+    ensures { IsLowestZero content.now count result }
+{
+    for place in 0..count {
+        if map_byte(content, place) == 0 {
+            return Some(place);
+        }
+    }
+    None
+}
+
+// A byte of a block of the map.
+#[tactic(auto, unfolding(zj_layout::specs::Node::byte_in))]
+pub(crate) fn map_byte(b: &Block, place: u32) -> u8
+    requires { place < 512 }
+    ensures { result ≡ byte_in b.now place }
+{
+    match b.byte(place as usize) {
+        Some(byte) => byte,
+        None => 0,
+    }
+}
