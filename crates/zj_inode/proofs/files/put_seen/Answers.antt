@@ -1,0 +1,7 @@
+-- The content is the one that is seen.
+use Rattle.std.proofs.Common.{sym}
+use Rattle.zj_inode.proofs.Around.{puts_seen}
+use Rattle.zj_inode.proofs.files.put_seen.Goals as goal
+
+pub returns : goal.returns
+returns c = puts_seen c.args.taken.now c.args.built.now c.args.written.now c.put.new.self c.args.block.0 c.in-Some.content.now c.in_ok-put.ensures.ok (sym c.in-Some.ensures.content)

@@ -1,0 +1,26 @@
+-- Nothing is built before the call, and write has been performed.
+use Rattle.std.proofs.Common.{◌≡◌, ℕ, List, refl}
+use Rattle.zj_tree.specs.declared.call.Call.{Call}
+use Rattle.zj_tree.specs.declared.call.Call.TheVariants as calls
+use Rattle.zj_inode.specs.Answering.{IsAnswered}
+use Rattle.zj_inode.proofs.Trims.{none_taken}
+use Rattle.zj_inode.proofs.performing.perform.Goals as goal
+
+answered : (call : Call) → ((path : List (List ℕ)) (at : ℕ) (bytes : List ℕ) → call ≡ calls.Write path at bytes → ⊥) → IsAnswered call
+answered (calls.Write path at bytes) h = absurd (h path at bytes refl)
+answered (calls.Mkdir path) h = tt
+answered (calls.Create path) h = tt
+answered (calls.Read path at count) h = tt
+answered (calls.Truncate path size) h = tt
+answered (calls.Unlink path) h = tt
+answered (calls.Rmdir path) h = tt
+answered (calls.Rename from to) h = tt
+answered (calls.List path) h = tt
+answered (calls.Stat path) h = tt
+answered (calls.Fsync path) h = tt
+
+pub answer-answered-requires-clause-known : goal.answer-answered-requires-clause-known
+answer-answered-requires-clause-known c = answered c.args.call.now c.in_default.not-Write
+
+pub finish-requires : goal.finish-requires
+finish-requires c = c.answer-answered.ensures.taken (none_taken c.args.taken.now c.new-built.result c.new-built.ensures)

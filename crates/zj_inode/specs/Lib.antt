@@ -1,0 +1,9 @@
+pub mod Answering
+pub mod Files
+pub mod Finding
+pub mod Footprint
+pub mod Looking
+pub mod Making
+pub mod Performs
+pub mod Removing
+pub mod Renaming

@@ -1,0 +1,44 @@
+//! Calls of the service over blocks that were taken.
+//!
+//! A call is performed over a few blocks as they were found, and nothing else: no lock, no disk, no other core. The blocks
+//! may be part of many states, and what is answered is right in every one that shows a tree (`specs/Performs.antt`):
+//!
+//! - `Outcome::Done`: the reply is the plain service's, and the state with the new contents put in shows the tree that the
+//!   call leaves. Each new content is of a block that was taken, and differs from what was found or is of a block that was
+//!   free or is written over. A call that is refused, or that only looks, has none.
+//! - `Outcome::Need`: this block was not taken, and the call may take it in every possible state (`specs/Footprint.antt`).
+//!   It is to be taken, and the call performed again.
+//! - `Outcome::Odd`: no state is possible.
+//!
+//! How a call is put together: each has a function that goes through its steps in the order of its reasons, leaves by `?`
+//! with what stops it (`Stopped`: a block that is needed, a refusal, Odd, or want of memory), and builds new contents as it
+//! goes. Its three clauses are `done` (the built contents answer the call: `Builds`), `taken` (each was taken) and `stop`
+//! (what stops it is the call's own: `CallStops`). `finish` makes the outcome of that, and leaves out contents that come
+//! out as they were found, so it has no more than were built (`few`).
+//!
+//! - `finding`: `go_to_node`, `go_to_dir`, `go_to_file` and `go_to_entry` find what names lead to, `entry_of` searches a
+//!   directory.
+//! - `looking`: `stat`, `fsync`, `list`, `read`.
+//! - `making`: `make_entry` is mkdir and create; `add_entry` adds an entry to a directory.
+//! - `removing`: `unlink`, `rmdir`; `remove_at` removes an entry, `release` frees a node and its blocks.
+//! - `files`: `truncate`, and `write`, which makes its own outcome: each block of the range that it writes is in it, also
+//!   where it comes out as it was found, and zeros stand behind the end in each block that was free (clause `whole`).
+//! - `renaming`: `rename`; `move_to` moves an entry to a name that is absent, `move_over` onto another entry.
+//! - `performing`: `perform`.
+#![tactic(auto)]
+
+mod files;
+mod finding;
+mod finishing;
+mod looking;
+mod making;
+mod outcome;
+mod performing;
+mod removing;
+mod renaming;
+mod stopped;
+
+pub use outcome::Outcome;
+
+#[cfg(test)]
+mod tests;
