@@ -5,7 +5,7 @@ ghost use Rattle.zj_script.specs.Number.{BeginsNumber};
 
 /// The number that a word spells in decimal, without leading zeros. None exactly where it spells none below
 /// 2^32.
-pub(crate) fn read_number(word: &[u8]) -> Option<u32>
+pub fn read_number(word: &[u8]) -> Option<u32>
     ensures some { IfSome result (λ number. word.now ≡ decimal number) }
     ensures none { IfNone result ((number : ℕ) → number < 2 ^ 32 → word.now ≢ decimal number) }
 {
