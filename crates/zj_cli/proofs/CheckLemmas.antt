@@ -1,6 +1,6 @@
 -- A set of devices that was opened, read and closed.
-use Rattle.std.proofs.Common.{◌≡◌, ◌≢◌, ◌⊎◌, ℕ, ◌<◌, ◌≤◌, List, ◌++◌, length, take, drop, refl, sym, ap, subst, ◌∙◌, arith, inl, inr}
-use Rattle.std.specs.Prelude.{Option, Some, None, IfErr, IfSome, IsSomeAnd, MatchOption, OnErr, OnOk, Result, Ok, Err, slice_get}
+use Rattle.std.proofs.Common.{◌≡◌, ◌≢◌, ◌⊎◌, ℕ, ◌<◌, ◌≤◌, List, [], ◌∷◌, ◌++◌, length, take, drop, refl, sym, ap, subst, ◌∙◌, arith, inl, inr}
+use Rattle.std.specs.Prelude.{Option, Some, None, IfSome, IsSomeAnd, MatchOption, slice_get}
 use Rattle.std.proofs.lemmas.List.{take_at}
 use Rattle.std.proofs.lemmas.Option.{slice_get_within}
 use Rattle.zj_dev.specs.Fault.{Rose}
@@ -16,10 +16,15 @@ use Rattle.zj_area.specs.Journal.{AreaView, opened as just_opened}
 use Rattle.zj_area.specs.Ring.{Holds, IsDamaged}
 use Rattle.zj_cli.specs.declared.status.Fault.{Fault}
 use Rattle.zj_cli.specs.declared.status.Fault.TheVariants as faults
+use Rattle.zj_cli.specs.declared.status.ImageFault.{ImageFault}
 use Rattle.zj_cli.specs.declared.status.ImageFault.TheVariants as images
-use Rattle.zj_cli.specs.Check.{AllHold, Checks, HasHome, HasJournals, IsDeviceCause, IsImageCause, IsJournalCause, IsMissing, IsDevicesCause, IsOpened, JournalHolds, OfDevice, OfJournal, OfLength, journal_text}
+use Rattle.zj_cli.specs.Check.{AllHold, Checks, HasHome, HasJournals, IsDeviceCause, IsImageCause, IsJournalCause, IsMissing, IsDevicesCause, IsOpened, IsUntoldSet, JournalHolds, OfDevice, OfJournal, OfLength, journal_text}
+use Rattle.zj_cli.specs.Image.{ShowsIn}
+use Rattle.zj_cli.specs.Mount.{AreEmpty, FailsIn, HasTree, HoldNothing, HoldsFirst, IsAtRest, IsFirstUsed, IsMountCause, Mounts}
 use Rattle.zj_cli.specs.Opening.{AllOpened, AreOpened, IsJournalsCause, IsOfSet}
-use Rattle.zj_cli.specs.Scanning.{AreCounted, AreaHolds, AreRead, HoldsSome, IsAreaCause, IsCountingCause, Prints}
+use Rattle.zj_tree.specs.Tree.{FileTree}
+use Rattle.zj_cli.proofs.PlayLemmas.{IsTreesCause}
+use Rattle.zj_cli.specs.Scanning.{AreCounted, AreaHolds, AreRead, HoldsSome, IsAreaCause, IsCountingCause, Prints, StopsAt}
 use Rattle.zj_cli.specs.Set.{AllBack, IsBack, IsClosed, IsLent, IsNoJournal, IsOut, IsPutBack, home_name, journal_name}
 use Rattle.zj_cli.proofs.OpenLemmas.{match_option}
 use Rattle.zj_dev.proofs.DiskLaws.{reads_trans, rose_since, rose_until}
@@ -82,6 +87,8 @@ module _ (before mid : ShelfView) (stay : OthersStay home_name before mid) where
       by_fault (faults.Image (images.Version found)) is = absurd is
       by_fault (faults.Image (images.Damaged device at found expected)) is = absurd is
       by_fault (faults.Image (images.Unbuilt device)) is = absurd is
+      by_fault (faults.Image (images.Exists device)) is = absurd is
+      by_fault (faults.Image (images.NoTree rule block)) is = absurd is
       by_fault (faults.Device device) is = failed device is
       by_fault faults.Memory is = tt
       by_fault faults.Words is = is
@@ -196,13 +203,9 @@ module _ {D : Type 0} (view : D → DiskView) (before mid now : ShelfView) (home
       one None e h = absurd h
       one (Some a) e h = of_area (λ sizes core image tail. (end : Tail) × Holds sizes core image tail printed.records end) 0 a e h
 
-  -- and why nothing was is why the set is refused
-  pub read_cause : (f f' : ℕ) (fault : Fault) → IsCountingCause view super old new fault → IsDevicesCause before now f f' fault
-  read_cause f f' fault (inr (inr memory)) = subst (λ (x : Fault). IsDevicesCause before now f f' x) (sym memory) tt
-  read_cause f f' fault (inr (inl many)) =
-      subst (λ (x : Fault). IsDevicesCause before now f f' x) (sym many.0)
-      (refl, (super, record { home = has_home; journals = has_journals; hold = λ core below. all_hold many.2.0 (length old) many.2.1 core (omega (arith, opened.many)) }, many.1))
-  read_cause f f' fault (inl stops) = at (slice_get old stops.1.core) (slice_get new stops.1.core) refl refl stops.1.here
+  -- and why one of them was not read is why the set is refused
+  pub stops_cause : (f f' : ℕ) (fault : Fault) → (counts : List ℕ) × StopsAt view old new counts fault → IsDevicesCause before now f f' fault
+  stops_cause f f' fault stops = at (slice_get old stops.1.core) (slice_get new stops.1.core) refl refl stops.1.here
     where
       device_cause : (device : Device) (a b : AreaView D) → slice_get old stops.1.core ≡ Some a → slice_get new stops.1.core ≡ Some b → device ≡ devices.Journal stops.1.core → Rose (view a.device).faults (view b.device).faults → IsDeviceCause before now f f' device
       device_cause device a b here there e rose =
@@ -229,6 +232,8 @@ module _ {D : Type 0} (view : D → DiskView) (before mid now : ShelfView) (home
       by_fault (faults.Image (images.Version found)) a b here there is = absurd is
       by_fault (faults.Image (images.Sizes device found expected)) a b here there is = absurd is
       by_fault (faults.Image (images.Unbuilt device)) a b here there is = absurd is
+      by_fault (faults.Image (images.Exists device)) a b here there is = absurd is
+      by_fault (faults.Image (images.NoTree rule block)) a b here there is = absurd is
       by_fault faults.Words a b here there is = is
       by_fault (faults.Script kind line column) a b here there is = is
       by_fault faults.Input a b here there is = is
@@ -239,6 +244,70 @@ module _ {D : Type 0} (view : D → DiskView) (before mid now : ShelfView) (home
       at (Some a) None e e' h = absurd h
       at (Some a) (Some b) e e' h = by_fault fault a b e e' h
 
+  -- and why nothing was told is why the set is refused, or that it has more cores than one
+  pub read_cause : (f f' : ℕ) (fault : Fault) → IsCountingCause view super old new fault → IsDevicesCause before now f f' fault ⊎ ((image : ImageFault) × (fault ≡ faults.Image image) × IsUntoldSet before image)
+  read_cause f f' fault (inl stops) = inl (stops_cause f f' fault stops)
+  read_cause f f' fault (inr (inl many)) =
+      inr (images.Unbuilt (devices.Journal 1), many.0, (refl, (super, record { home = has_home; journals = has_journals; hold = λ core below. all_hold many.2.0 (length old) many.2.1 core (omega (arith, opened.many)) }, many.1)))
+  read_cause f f' fault (inr (inr memory)) = inl (subst (λ (x : Fault). IsDevicesCause before now f f' x) (sym memory) tt)
+
+  -- ---- the tree of an image
+
+  -- an area without a record is a journal without one
+  holds_nothing : (count : ℕ) → count ≤ length old → AreEmpty view old count → HoldNothing before super count
+  holds_nothing count few empty core below = one (slice_get old core) refl (empty core below)
+    where
+      one : (o : Option (AreaView D)) → slice_get old core ≡ o → IsSomeAnd o (λ a. AreaHolds view a []) → JournalHolds before super core []
+      one None e h = absurd h
+      one (Some a) e h = of_area (λ sizes core image tail. (end : Tail) × Holds sizes core image tail [] end) core a e h
+
+  at_rest : AreEmpty view old (length old) → IsAtRest before super
+  at_rest empty = record { home = has_home; journals = has_journals; empty = λ core below. holds_nothing (length old) (omega arith) empty core (omega (arith, below, opened.many)) }
+
+  pub mounts : (d : D) (tree : FileTree) → view d ≡ home → HasTree view super d old tree → Mounts before super tree
+  mounts d tree same has = record {
+    rests = at_rest has.empty;
+    shows = of_lent (before home_name) (mid home_name) home (λ image. ShowsIn super.sizes image tree) out.home_lent (subst (λ (x : DiskView). IfSome x.bytes (λ image. ShowsIn super.sizes image tree)) same has.shows);
+  }
+
+  -- why there is none is why the image is refused, or a device failed
+  pub mount_cause : (f f' : ℕ) (d d' : D) (fault : Fault) → view d ≡ home → view d' ≡ home' → home.faults ≤ home'.faults → IsMountCause view super d d' old new fault → IsTreesCause before now f f' fault
+  mount_cause f f' d d' fault same same' le (inl stops) = of_devices fault (stops_cause f f' fault stops)
+    where
+      of_devices : (fault : Fault) → IsDevicesCause before now f f' fault → IsTreesCause before now f f' fault
+      of_devices (faults.Image image) cause = inl cause
+      of_devices (faults.Device device) cause = cause
+      of_devices faults.Memory cause = tt
+      of_devices faults.Words cause = cause
+      of_devices (faults.Script kind line column) cause = cause
+      of_devices faults.Input cause = cause
+      of_devices faults.Output cause = cause
+  mount_cause f f' d d' fault same same' le (inr (inl used)) =
+      let first = used.2 in
+      let core = used.0 in
+      subst (λ (x : Fault). IsTreesCause before now f f' x) (sym used.1)
+      (inr (inl (core, super, refl, of_first core first (slice_get old core) refl first.here)))
+    where
+      of_first : (core : ℕ) → (first : HoldsFirst view old core) → (o : Option (AreaView D)) → slice_get old core ≡ o → IsSomeAnd o (λ a. (r : Record) × (rest : List Record) × AreaHolds view a (r ∷ rest)) → IsFirstUsed before super core
+      of_first core first None e h = absurd h
+      of_first core first (Some a) e h = record {
+        home = has_home;
+        journals = has_journals;
+        hold = λ k below. all_hold first.counts (length old) first.counted k (omega (arith, below, opened.many));
+        within = omega (arith, first.within, opened.many);
+        before = holds_nothing core (omega (arith, first.within)) first.before;
+        first = h.0;
+        rest = h.1;
+        here = of_area (λ sizes core image tail. (end : Tail) × Holds sizes core image tail (h.0 ∷ h.1) end) core a e h.2;
+      }
+  mount_cause f f' d d' fault same same' le (inr (inr (inl failed))) =
+      subst (λ (x : Fault). IsTreesCause before now f f' x) (sym failed.0)
+      (inr (rose_put (before home_name) (now home_name) home home' closed.home_back (lent_faults (before home_name) (mid home_name) home out.home_lent) (rw (same, same') at failed.2)))
+  mount_cause f f' d d' fault same same' le (inr (inr (inr (inl none)))) =
+      subst (λ (x : Fault). IsTreesCause before now f f' x) (sym none.2)
+      (inr (inr (none.0, none.1, super, refl, at_rest none.3, of_lent (before home_name) (mid home_name) home (λ image. FailsIn super.sizes image none.0 none.1) out.home_lent (subst (λ (x : DiskView). IfSome x.bytes (λ image. FailsIn super.sizes image none.0 none.1)) same none.4))))
+  mount_cause f f' d d' fault same same' le (inr (inr (inr (inr memory)))) = subst (λ (x : Fault). IsTreesCause before now f f' x) (sym memory) tt
+
   -- and why one of them was not closed
   pub close_cause : (count f f1 f2 : ℕ) (fault : Fault) → count ≡ super.sizes.cores → f ≤ f1 → IsOfSet count fault × Rose f1 f2
       → (device : Device) × (fault ≡ faults.Device device) × IsDeviceCause before now f f2 device × Rose f f2
@@ -248,13 +317,14 @@ module _ {D : Type 0} (view : D → DiskView) (before mid now : ShelfView) (home
       (devices.Journal is.0, is.2, (super, has_home, below, inl (λ core before. has_journals core (omega (arith, before, below)), rose_since f f1 f2 le rose)), rose_since f f1 f2 le rose)
 
 -- what was out, was read and is closed
-pub closes : {D : Type 0} (view : D → DiskView) (before mid now : ShelfView) (home : DiskView) (items old new : List (AreaView D)) (len : ℕ) → IsOut view before mid home items → old ≡ items → AreRead view old new → length new ≡ len
-    → (IsOut view before mid home (take len (new ++ drop (length new) items)) → IsClosed view before now home (take len (new ++ drop (length new) items))) → IsOut view before mid home old × IsClosed view before now home new
-closes view before mid now home items old new len out same read many close =
+pub closes : {D : Type 0} (view : D → DiskView) (before mid now : ShelfView) (home home' : DiskView) (items old new : List (AreaView D)) (len : ℕ) → IsOut view before mid home items → OnlyReads home home' → old ≡ items → AreRead view old new → length new ≡ len
+    → (IsOut view before mid home' (take len (new ++ drop (length new) items)) → IsClosed view before now home' (take len (new ++ drop (length new) items))) → IsOut view before mid home old × IsClosed view before now home' new
+closes view before mid now home home' items old new len out reads same read many close =
     let out_old : IsOut view before mid home old = subst (λ (l : List (AreaView _)). IsOut view before mid home l) (sym same) out in
     let whole : take len (new ++ drop (length new) items) ≡ new = take_at new (drop (length new) items) len many in
-    let close_new : IsOut view before mid home new → IsClosed view before now home new = subst (λ (l : List (AreaView _)). IsOut view before mid home l → IsClosed view before now home l) whole close in
-    (out_old, close_new (out_read view before mid home old new out_old read))
+    let close_new : IsOut view before mid home' new → IsClosed view before now home' new = subst (λ (l : List (AreaView _)). IsOut view before mid home' l → IsClosed view before now home' l) whole close in
+    let read_new : IsOut view before mid home new = out_read view before mid home old new out_old read in
+    (out_old, close_new (record { home_lent = lent_reads (before home_name) (mid home_name) home home' out_old.home_lent reads; journals = read_new.journals; others = read_new.others }))
 
 -- as many are closed as were read
 pub as_many : {D : Type 0} (items new : List (AreaView D)) (len : ℕ) → length new ≡ len → length (take len (new ++ drop (length new) items)) ≡ len

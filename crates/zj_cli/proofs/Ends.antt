@@ -1,14 +1,15 @@
 -- How `check` ends, by how it printed and how it closed.
-use Rattle.std.proofs.Common.{◌≡◌, ◌≢◌, ◌⊎◌, ℕ, List, [], ◌++◌, Option, Some, None, refl, sym, ap, subst, ◌∙◌, inl, inr, append-nil}
-use Rattle.std.specs.Prelude.{IfErr, OnErr, OnOk, Result, Ok, Err}
+use Rattle.std.proofs.Common.{◌≡◌, ◌⊎◌, ℕ, List, [], ◌++◌, Some, sym, subst, inl, inr, append-nil}
+use Rattle.std.specs.Prelude.{IfErr, OnOk, Result, Ok, Err}
 use Rattle.std.specs.Result.{result_and, result_err}
 use Rattle.zj_dev.specs.Fault.{Rose}
 use Rattle.zj_dev.specs.Stream.{Took}
 use Rattle.zj_dev.specs.declared.device.Device.{Device}
 use Rattle.zj_cli.specs.declared.status.Fault.{Fault}
 use Rattle.zj_cli.specs.declared.status.Fault.TheVariants as faults
-use Rattle.zj_cli.specs.Check.{CheckEnds, Checks, IsDeviceCause, IsDevicesCause, Tells}
-use Rattle.zj_cli.specs.Outside.{IsUnwritten, MeetsNoFault, Outside}
+use Rattle.zj_cli.specs.declared.status.ImageFault.{ImageFault}
+use Rattle.zj_cli.specs.Check.{CheckEnds, Checks, IsDeviceCause, IsDevicesCause, IsUntoldSet, Tells}
+use Rattle.zj_cli.specs.Outside.{IsUnwritten, Outside}
 
 pub on_ok : {T E : Type 0} → (r : Result T E) {P Q : Type 0} → (P → Q) → OnOk r P → OnOk r Q
 on_ok (Ok x) to is = to is
@@ -21,7 +22,7 @@ if_err (Err e) to is = to e is
 module _ (before after : Outside) where
   -- a fault that comes before anything is written
   pub ends_unwritten : (fault : Fault) → IsDevicesCause before.names after.names before.shelf_faults after.shelf_faults fault → IsUnwritten before after → CheckEnds before after (Some fault)
-  ends_unwritten (faults.Image fault) cause unwritten = (cause, unwritten)
+  ends_unwritten (faults.Image fault) cause unwritten = (inl cause, unwritten)
   ends_unwritten (faults.Device device) cause unwritten = (cause, inl unwritten)
   ends_unwritten faults.Memory cause unwritten = unwritten
   ends_unwritten faults.Words cause unwritten = absurd cause
@@ -29,10 +30,14 @@ module _ (before after : Outside) where
   ends_unwritten faults.Input cause unwritten = absurd cause
   ends_unwritten faults.Output cause unwritten = absurd cause
 
+  -- why the journals were not all told of
+  abbrev pub IsReadingCause : Fault → Type 0
+  IsReadingCause fault = IsDevicesCause before.names after.names before.shelf_faults after.shelf_faults fault ⊎ ((image : ImageFault) × (fault ≡ faults.Image image) × IsUntoldSet before.names image)
+
   -- why printing failed
   abbrev pub FailsToPrint : Fault → Type 0
   FailsToPrint fault = ((fault ≡ faults.Output) × ((rest : List ℕ) × Tells before after rest) × Rose before.output_faults after.output_faults)
-      ⊎ (IsDevicesCause before.names after.names before.shelf_faults after.shelf_faults fault × IsUnwritten before after)
+      ⊎ (IsReadingCause fault × IsUnwritten before after)
 
   -- why closing failed
   abbrev pub FailsToClose : Fault → Type 0
@@ -45,7 +50,8 @@ module _ (before after : Outside) where
   ends (Ok x) (Ok y) input told failed quiet closing = (told.0, record { input = input; output = told.1; shelf = quiet })
   ends (Ok x) (Err fault) input told failed quiet closing = subst (λ (f : Fault). CheckEnds before after (Some f)) (sym closing.1) (closing.2, inr (told.0, closing.3))
   ends (Err fault) closed input told (inl output) quiet closing = subst (λ (f : Fault). CheckEnds before after (Some f)) (sym output.0) (output.1, output.2)
-  ends (Err fault) closed input told (inr early) quiet closing = ends_unwritten fault early.0 early.1
+  ends (Err fault) closed input told (inr (inl early, unwritten)) quiet closing = ends_unwritten fault early unwritten
+  ends (Err fault) closed input told (inr (inr many, unwritten)) quiet closing = subst (λ (f : Fault). CheckEnds before after (Some f)) (sym many.1) (inr many.2, unwritten)
 
   -- all was printed
   pub tells : {T : Type 0} {Prints : List ℕ → Type 0} (Q : Type 0) → (printed : Result T Fault) → ((text : List ℕ) → Prints text → Checks before.names text)
@@ -55,7 +61,7 @@ module _ (before after : Outside) where
 
   -- a part of it was, or nothing
   pub fails_to_print : {Prints : List ℕ → Type 0} {Reads : Fault → Type 0} {Same : Type 0} → ((text : List ℕ) → Prints text → Checks before.names text)
-      → ((fault : Fault) → Reads fault → IsDevicesCause before.names after.names before.shelf_faults after.shelf_faults fault) → (Same → IsUnwritten before after)
+      → ((fault : Fault) → Reads fault → IsReadingCause fault) → (Same → IsUnwritten before after)
       → (fault : Fault) → ((fault ≡ faults.Output) × ((front rest : List ℕ) × Prints (front ++ rest) × Took before.held after.held front) × Rose before.output_faults after.output_faults) ⊎ (Reads fault × Same) → FailsToPrint fault
   fails_to_print known read same fault (inl output) = inl (output.0, (output.1.1, record { written = output.1.0; text = known (output.1.0 ++ output.1.1) output.1.2; took = output.1.3 }), output.2)
   fails_to_print known read same fault (inr early) = inr (read fault early.0, same early.1)

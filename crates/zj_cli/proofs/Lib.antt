@@ -7,4 +7,6 @@ pub mod OpenLemmas
 pub mod ScanLemmas
 pub mod CloseLemmas
 pub mod CheckLemmas
+pub mod MakeLemmas
+pub mod MountLemmas
 pub mod Refused

@@ -13,9 +13,9 @@ use Rattle.zj_cli.specs.declared.status.Fault.TheVariants as faults
 use Rattle.zj_cli.specs.declared.status.ImageFault.TheVariants as images
 use Rattle.zj_cli.specs.Check.{IsJournalCause, IsOpened, OfLength}
 use Rattle.zj_cli.specs.Opening.{AreOpened, StopsOpening}
-use Rattle.zj_cli.specs.Set.{IsBack, IsLent, journal_name}
+use Rattle.zj_cli.specs.Set.{IsLent, journal_name}
 use Rattle.zj_dev.proofs.DiskLaws.{rose_since}
-use Rattle.zj_cli.proofs.SetLemmas.{back_same, journals_differ}
+use Rattle.zj_cli.proofs.SetLemmas.{journals_differ}
 
 -- ---- an element more
 
@@ -101,6 +101,8 @@ journal_cause_since slot old mid new super core (faults.Image (images.NotAnImage
 journal_cause_since slot old mid new super core (faults.Image (images.Version found)) le cause = cause
 journal_cause_since slot old mid new super core (faults.Image (images.Damaged device at found expected)) le cause = cause
 journal_cause_since slot old mid new super core (faults.Image (images.Unbuilt device)) le cause = cause
+journal_cause_since slot old mid new super core (faults.Image (images.Exists device)) le cause = cause
+journal_cause_since slot old mid new super core (faults.Image (images.NoTree rule block)) le cause = cause
 journal_cause_since slot old mid new super core (faults.Device device) le cause = (cause.0, rose_since old mid new le cause.1)
 journal_cause_since slot old mid new super core faults.Memory le cause = cause
 journal_cause_since slot old mid new super core faults.Words le cause = cause

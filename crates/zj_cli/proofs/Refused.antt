@@ -1,6 +1,6 @@
 -- An image that was not opened whole, put back.
-use Rattle.std.proofs.Common.{◌≡◌, ◌≢◌, ℕ, ◌<◌, ◌≤◌, Bool, true, false, List, length, refl, sym, ap, subst, ◌∙◌, arith, inl, inr}
-use Rattle.std.specs.Prelude.{Option, Some, None, MatchOption, slice_get, bytes_eq}
+use Rattle.std.proofs.Common.{◌≡◌, ◌≢◌, ℕ, ◌<◌, Bool, true, false, List, length, refl, sym, subst, ◌∙◌, arith, inl, inr}
+use Rattle.std.specs.Prelude.{Option, Some, None, slice_get, bytes_eq}
 use Rattle.std.proofs.lemmas.Bool.{cases_eq}
 use Rattle.std.proofs.lemmas.Option.{slice_get_past}
 use Rattle.std.proofs.lemmas.Slice.Eq.{bytes_eq-Decides}
@@ -12,7 +12,7 @@ use Rattle.zj_cli.specs.Opening.{StopsOpening}
 use Rattle.zj_cli.specs.Set.{AllBack, IsBack, IsLent, IsOut, home_name, journal_name, with_slot}
 use Rattle.zj_cli.proofs.CheckLemmas.{all_out}
 use Rattle.zj_cli.proofs.OpenLemmas.{next_slot}
-use Rattle.zj_cli.proofs.SetLemmas.{back_refl, back_same, home_differs, journals_differ}
+use Rattle.zj_cli.proofs.SetLemmas.{back_refl, home_differs, journals_differ}
 
 -- ---- a slot in place of another
 

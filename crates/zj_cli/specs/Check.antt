@@ -79,8 +79,11 @@ IsImageCause names (images.Sizes (devices.Journal core) found expected) =
 IsImageCause names (images.Damaged devices.Home at found expected) = ⊥
 IsImageCause names (images.Damaged (devices.Journal core) at found expected) =
     (super : Super) × HasHome names super × HasJournals names super super.sizes.cores × (core < super.sizes.cores) × AllHold names super core × OfJournal names super core (λ image tail. IsDamaged super.sizes core image tail at found expected)
-IsImageCause names (images.Unbuilt devices.Home) = ⊥
-IsImageCause names (images.Unbuilt (devices.Journal core)) = (core ≡ 1) × ((super : Super) × IsWhole names super × (1 < super.sizes.cores))
+IsImageCause names fault = ⊥
+
+-- `check` doesn't tell yet of journals of more than one core.
+abbrev pub IsUntoldSet : ShelfView → ImageFault → Type 0
+IsUntoldSet names fault = (fault ≡ images.Unbuilt (devices.Journal 1)) × ((super : Super) × IsWhole names super × (1 < super.sizes.cores))
 
 -- the count of faults of the device under a name rose
 abbrev pub RoseUnder : Slot → Slot → Type 0
@@ -129,7 +132,7 @@ pub record Tells (before after : Outside) (rest : List ℕ) : Type 0 where
 -- How `check` ends.
 abbrev pub CheckEnds : Outside → Outside → Option Fault → Type 0
 CheckEnds before after None = Tells before after [] × MeetsNoFault before after
-CheckEnds before after (Some (faults.Image fault)) = IsImageCause before.names fault × IsUnwritten before after
+CheckEnds before after (Some (faults.Image fault)) = (IsImageCause before.names fault ⊎ IsUntoldSet before.names fault) × IsUnwritten before after
 CheckEnds before after (Some (faults.Device device)) = IsDeviceCause before.names after.names before.shelf_faults after.shelf_faults device × (IsUnwritten before after ⊎ (Tells before after [] × Rose before.shelf_faults after.shelf_faults))
 CheckEnds before after (Some faults.Memory) = IsUnwritten before after
 CheckEnds before after (Some faults.Output) = ((rest : List ℕ) × Tells before after rest) × Rose before.output_faults after.output_faults

@@ -5,3 +5,6 @@ pub mod Set
 pub mod Check
 pub mod Opening
 pub mod Scanning
+pub mod Image
+pub mod Make
+pub mod Mount

@@ -9,7 +9,7 @@ use Rattle.zj_home.specs.Super.{Super}
 use Rattle.zj_cli.specs.declared.status.Fault.{Fault}
 use Rattle.zj_cli.specs.declared.status.Fault.TheVariants as faults
 use Rattle.zj_cli.specs.Check.{HasJournals, IsJournalCause, IsOpened}
-use Rattle.zj_cli.specs.Set.{IsBack, IsLent, IsNoJournal, journal_name}
+use Rattle.zj_cli.specs.Set.{IsLent, IsNoJournal, journal_name}
 
 -- The journals of the first cores, so many, were taken out and opened, and all else is as it was.
 pub record AreOpened {D : Type 0} (view : D → DiskView) (before now : ShelfView) (super : Super) (count : ℕ) (areas : List (AreaView D)) : Type 0 where

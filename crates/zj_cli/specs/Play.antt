@@ -3,6 +3,8 @@ use Rattle.std.specs.Prelude.{◌≡◌, ◌⊎◌, ℕ, ◌+◌, ◌≤◌, Lis
 use Rattle.std.specs.List.{flat_map}
 use Rattle.zj_dev.specs.Fault.{Rose}
 use Rattle.zj_dev.specs.Stream.{Gave, Took}
+use Rattle.zj_home.specs.Super.{Super}
+use Rattle.zj_layout.specs.Shows.{limits_of}
 use Rattle.zj_tree.specs.Tree.{FileTree}
 use Rattle.zj_tree.specs.Apply.{Limits, apply}
 use Rattle.zj_script.specs.declared.answer.Answer.{Answer}
@@ -12,11 +14,10 @@ use Rattle.zj_script.specs.declared.script.TheConstants.{MAX_BYTES}
 use Rattle.zj_script.specs.Script.{IsScript}
 use Rattle.zj_cli.specs.declared.status.Fault.{Fault}
 use Rattle.zj_cli.specs.declared.status.Fault.TheVariants as faults
-use Rattle.zj_cli.specs.Outside.{IsUnwritten, MeetsNoFault, Outside}
-
--- the tree of `play` has room for 8 entries, the root among them, and 62 blocks
-abbrev pub play_limits : Limits
-play_limits = record { nodes = 8; room = 62; version = 1 }
+use Rattle.zj_cli.specs.Check.{IsDeviceCause}
+use Rattle.zj_cli.specs.Mount.{IsTreeCause, Mounts}
+use Rattle.zj_cli.specs.Outside.{IsUnwritten, Outside}
+use Rattle.zj_cli.specs.Set.{AllBack}
 
 -- the answer to a line that draws a ticket: its reply is the service's in that tree
 abbrev pub answer_to : Limits → FileTree → ℕ → Line → Answer
@@ -62,11 +63,36 @@ pub record StopsEarly (before after : Outside) : Type 0 where
   pub reads : Reads before.left after.left read
   pub unwritten : IsUnwritten before after
 
--- How `play` ends, for so many cores and from a tree on.
-abbrev pub PlayEnds : ℕ → Limits → FileTree → Outside → Outside → Option Fault → Type 0
-PlayEnds cores limits tree before after None = Plays cores limits tree before after [] × MeetsNoFault before after
-PlayEnds cores limits tree before after (Some (faults.Script kind line column)) = RefusesScript cores before after × (kind ≡ 0) × (line ≡ 0) × (column ≡ 0)
-PlayEnds cores limits tree before after (Some faults.Memory) = StopsEarly before after
-PlayEnds cores limits tree before after (Some faults.Input) = StopsEarly before after × Rose before.input_faults after.input_faults
-PlayEnds cores limits tree before after (Some faults.Output) = ((rest : List ℕ) × Plays cores limits tree before after rest) × Rose before.output_faults after.output_faults
-PlayEnds cores limits tree before after (Some fault) = ⊥
+-- How reading and playing a script ends, for so many cores and from a tree on.
+abbrev pub ScriptEnds : ℕ → Limits → FileTree → Outside → Outside → Option Fault → Type 0
+ScriptEnds cores limits tree before after None = Plays cores limits tree before after [] × (after.input_faults ≡ before.input_faults) × (after.output_faults ≡ before.output_faults)
+ScriptEnds cores limits tree before after (Some (faults.Script kind line column)) = RefusesScript cores before after × (kind ≡ 0) × (line ≡ 0) × (column ≡ 0)
+ScriptEnds cores limits tree before after (Some faults.Memory) = StopsEarly before after
+ScriptEnds cores limits tree before after (Some faults.Input) = StopsEarly before after × Rose before.input_faults after.input_faults
+ScriptEnds cores limits tree before after (Some faults.Output) = ((rest : List ℕ) × Plays cores limits tree before after rest) × Rose before.output_faults after.output_faults
+ScriptEnds cores limits tree before after (Some fault) = ⊥
+
+-- The image on the shelf shows a tree, and playing a script from it on ended so.
+pub record PlaysFrom (before after : Outside) (fault : Option Fault) : Type 0 where
+  pub super : Super
+  pub tree : FileTree
+  pub mounts : Mounts before.names super tree
+  pub script : ScriptEnds super.sizes.cores (limits_of super.sizes) tree before after fault
+
+-- Neither was the input read nor the output written.
+abbrev pub IsUnread : Outside → Outside → Type 0
+IsUnread before after = (after.left ≡ before.left) × IsUnwritten before after
+
+-- How `play` ends: before the script was read, as the image gives no tree or a device failed; or with the script; or, where that
+-- was played to its end, with a fault of closing.
+abbrev pub PlayEnds : Outside → Outside → Option Fault → Type 0
+PlayEnds before after None = PlaysFrom before after None × (after.shelf_faults ≡ before.shelf_faults)
+PlayEnds before after (Some (faults.Image fault)) = IsTreeCause before.names fault × IsUnread before after
+PlayEnds before after (Some (faults.Device device)) = IsDeviceCause before.names after.names before.shelf_faults after.shelf_faults device × (IsUnread before after ⊎ (PlaysFrom before after None × Rose before.shelf_faults after.shelf_faults))
+PlayEnds before after (Some faults.Memory) = StopsEarly before after
+PlayEnds before after (Some fault) = PlaysFrom before after (Some fault)
+
+-- What `play` does: however it ends, each device stands again where it stood, and was only read.
+pub record RunsPlay (before after : Outside) (fault : Option Fault) : Type 0 where
+  pub back : AllBack before.names after.names
+  pub ends : PlayEnds before after fault

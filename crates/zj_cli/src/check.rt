@@ -5,10 +5,10 @@ ghost use Rattle.std.specs.Result.{result_err};
 ghost use Rattle.zj_dev.specs.Fault.{Rose};
 ghost use Rattle.zj_dev.specs.Stream.{Took};
 ghost use Rattle.zj_cli.specs.declared.status.Fault.TheVariants as faults;
-ghost use Rattle.zj_cli.specs.declared.tool.Command.TheVariants as commands;
 ghost use Rattle.zj_cli.specs.Check.{RunsCheck, journal_text};
 ghost use Rattle.zj_cli.specs.Opening.{AllOpened};
 ghost use Rattle.zj_cli.specs.Scanning.{AreRead, IsCountingCause, Prints};
+ghost use Rattle.zj_cli.specs.Tool as tool;
 ghost use Rattle.zj_cli.specs.Tool.{IsBeforeWriting};
 
 use crate::close::close_set;
@@ -92,7 +92,7 @@ pub fn check<H: Shelf, K: Sink>(alloc: Global, shelf: &mut H, out: &mut K) -> Re
         (record { left = left; held = K.held out.old; names = H.names shelf.old; input_faults = input_faults; output_faults = K.faults out.old; shelf_faults = H.faults shelf.old })
         (record { left = left; held = K.held out.new; names = H.names shelf.new; input_faults = input_faults; output_faults = K.faults out.new; shelf_faults = H.faults shelf.new })
         (result_err result) }
-    ensures unwritten { IfErr result (λ fault. IsBeforeWriting commands.Check fault → out.new ≡ out.old) }
+    ensures unwritten { IfErr result (λ fault. IsBeforeWriting tool.Check fault → out.new ≡ out.old) }
 {
     let Set { home, mut areas } = open_set(alloc, shelf)?;
     let printed = print_set(alloc, &home, &mut areas, out);

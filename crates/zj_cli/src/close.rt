@@ -16,7 +16,12 @@ use zj_dev::{Device, Disk, Shelf};
 use zj_home::Home;
 
 /// Puts a device back into its shelf, under its name.
-fn put_back<H: Shelf>(shelf: &mut H, device: Device, name: &str, d: H::D) -> Result<(), Fault>
+pub(crate) fn put_back<H: Shelf>(
+    shelf: &mut H,
+    device: Device,
+    name: &str,
+    d: H::D,
+) -> Result<(), Fault>
     ensures closed { Closes (H.D.view d) (H.names shelf.old name.now) (H.names shelf.new name.now) }
     ensures others { OthersStay name.now (H.names shelf.old) (H.names shelf.new) }
     ensures cause { IfErr result (λ fault. (fault ≡ faults.Device device) × Rose (H.faults shelf.old) (H.faults shelf.new)) }

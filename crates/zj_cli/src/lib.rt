@@ -4,6 +4,8 @@
 
 mod check;
 mod close;
+mod make;
+mod mount;
 mod play;
 mod scan;
 mod set;

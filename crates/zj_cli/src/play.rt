@@ -1,53 +1,110 @@
 //! `play`: a script's calls in order, each on the tree that those before it left.
 
-ghost use Rattle.std.specs.Prelude.{◌≡◌, ◌≢◌, ◌++◌, ℕ, [], IfOk, OnOk, OnErr};
+ghost use Rattle.std.specs.Prelude.{◌≡◌, ◌≢◌, ◌⊎◌, ◌++◌, ℕ, IfErr, IfOk, IsErr, OnOk, OnErr};
 ghost use Rattle.std.specs.List.{flat_map};
 ghost use Rattle.std.specs.Result.{result_err};
+ghost use Rattle.zj_dev.specs.Disk.{OnlyReads};
 ghost use Rattle.zj_dev.specs.Shelf.{ShelfView};
 ghost use Rattle.zj_tree.specs.Apply.{apply};
-ghost use Rattle.zj_tree.specs.Tree.{root_alone};
+ghost use Rattle.zj_tree.specs.Tree.{FileTree};
+ghost use Rattle.zj_layout.specs.Shows.{limits_of};
 ghost use Rattle.zj_script.specs.Answers.{answer_text};
 ghost use Rattle.zj_cli.specs.declared.status.Fault.TheVariants as faults;
-ghost use Rattle.zj_cli.specs.Play.{PlayEnds, answer_to, answers_from, play_limits};
+ghost use Rattle.zj_cli.specs.Mount.{HasTree, IsMountCause};
+ghost use Rattle.zj_cli.specs.Opening.{AllOpened};
+ghost use Rattle.zj_cli.specs.Play.{RunsPlay, ScriptEnds, answer_to, answers_from};
+ghost use Rattle.zj_cli.specs.Scanning.{AreRead};
+ghost use Rattle.zj_cli.specs.Tool as tool;
+ghost use Rattle.zj_cli.specs.Tool.{IsBeforeWriting};
 
+use crate::close::close_set;
+use crate::mount::mount;
+use crate::set::{Set, open_set};
 use crate::status::Fault;
 use crate::stream::{read_whole, write_whole};
 use std::alloc::{AllocError, Global};
-use zj_dev::{Sink, Source};
+use zj_area::Area;
+use zj_dev::{Disk, Shelf, Sink, Source};
+use zj_home::Home;
 use zj_script::{Answer, Line, read_script, write_answer};
 use zj_tree::Tree;
 
-/// The tree's cores, entries, blocks and version.
-const CORES: u32 = 1;
+/// Reads a script, makes its calls on the tree of the image on a shelf, and writes their answers. It writes no device, and all
+/// that it opened is closed again.
+///
+/// The first fault in this order counts: opening, reading the devices, the input, the script, writing to `out`, closing.
+pub fn play<H: Shelf, S: Source, K: Sink>(
+    alloc: Global,
+    shelf: &mut H,
+    input: &mut S,
+    out: &mut K,
+) -> Result<(), Fault>
+    ensures runs { RunsPlay
+        (record { left = S.left input.old; held = K.held out.old; names = H.names shelf.old; input_faults = S.faults input.old; output_faults = K.faults out.old; shelf_faults = H.faults shelf.old })
+        (record { left = S.left input.new; held = K.held out.new; names = H.names shelf.new; input_faults = S.faults input.new; output_faults = K.faults out.new; shelf_faults = H.faults shelf.new })
+        (result_err result) }
+    ensures unwritten { IfErr result (λ fault. IsBeforeWriting tool.Play fault → out.new ≡ out.old) }
+{
+    let Set {
+        mut home,
+        mut areas,
+    } = open_set(alloc, shelf)?;
+    let played = play_set(alloc, &mut home, &mut areas, input, out);
+    let closed = close_set(shelf, home, areas);
+    played.and(closed)
+}
 
-const NODES: u32 = 8;
+/// Plays a script from the tree on that an image shows which was opened.
+fn play_set<D: Disk, S: Source, K: Sink>(
+    alloc: Global,
+    home: &mut Home<D>,
+    areas: &mut [Area<D>],
+    input: &mut S,
+    out: &mut K,
+) -> Result<(), Fault>
+    requires { AllOpened home.old.told areas.old }
+    ensures told { home.new.told ≡ home.old.told }
+    ensures home_read { OnlyReads (D.view home.old.device) (D.view home.new.device) }
+    ensures read { AreRead D.view areas.old areas.new }
+    ensures ends { ((tree : FileTree) × HasTree D.view home.old.told home.old.device areas.old tree
+        × ((names now : ShelfView) (faults since : ℕ) → ScriptEnds home.old.told.sizes.cores (limits_of home.old.told.sizes) tree
+        (record { left = S.left input.old; held = K.held out.old; names = names; input_faults = S.faults input.old; output_faults = K.faults out.old; shelf_faults = faults })
+        (record { left = S.left input.new; held = K.held out.new; names = now; input_faults = S.faults input.new; output_faults = K.faults out.new; shelf_faults = since })
+        (result_err result)))
+        ⊎ (IfErr result (IsMountCause D.view home.old.told home.old.device home.new.device areas.old areas.new) × (IsErr result) × (input.new ≡ input.old) × (out.new ≡ out.old)) }
+    ensures unwritten { OnErr result (result ≢ Err faults.Output → out.new ≡ out.old) }
+{
+    let tree = mount(alloc, home, areas)?;
+    play_script(alloc, home.sizes().cores(), tree, input, out)
+}
 
-const ROOM: u32 = 62;
-
-const VERSION: u32 = 1;
-
-/// Reads a script, makes its calls from the root alone on, and writes their answers. It stands for any shelf,
-/// since it touches none.
-pub fn play<S: Source, K: Sink>(alloc: Global, input: &mut S, out: &mut K) -> Result<(), Fault>
-    ensures ends { (names : ShelfView) (shelf_faults : ℕ) → PlayEnds 1 play_limits root_alone
-        (record { left = S.left input.old; held = K.held out.old; names = names; input_faults = S.faults input.old; output_faults = K.faults out.old; shelf_faults = shelf_faults })
-        (record { left = S.left input.new; held = K.held out.new; names = names; input_faults = S.faults input.new; output_faults = K.faults out.new; shelf_faults = shelf_faults })
+/// Reads a script for so many cores, makes its calls from a tree on, and writes their answers.
+fn play_script<S: Source, K: Sink>(
+    alloc: Global,
+    cores: u32,
+    tree: Tree,
+    input: &mut S,
+    out: &mut K,
+) -> Result<(), Fault>
+    ensures ends { (names now : ShelfView) (faults since : ℕ) → ScriptEnds cores tree.limits tree.tree
+        (record { left = S.left input.old; held = K.held out.old; names = names; input_faults = S.faults input.old; output_faults = K.faults out.old; shelf_faults = faults })
+        (record { left = S.left input.new; held = K.held out.new; names = now; input_faults = S.faults input.new; output_faults = K.faults out.new; shelf_faults = since })
         (result_err result) }
     ensures unwritten { OnErr result (result ≢ Err faults.Output → out.new ≡ out.old) }
 {
     let script = read_whole(alloc, input)?;
-    let Some(lines) = read_script(alloc, CORES, &script)? else {
+    let Some(lines) = read_script(alloc, cores, &script)? else {
         return Err(Fault::NO_SCRIPT);
     };
-    let answers = answer_lines(alloc, &lines)?;
+    let answers = answer_lines(alloc, tree, &lines)?;
     write_whole(out, &answers)
 }
 
-/// The text of the answers to the lines, from the tree with the root alone on.
-fn answer_lines(alloc: Global, lines: &[Line]) -> Result<Vec<u8>, AllocError>
-    ensures { IfOk result (λ out. out.items ≡ flat_map answer_text (answers_from play_limits root_alone 0 lines.now)) }
+/// The text of the answers to the lines, from a tree on.
+fn answer_lines(alloc: Global, tree: Tree, lines: &[Line]) -> Result<Vec<u8>, AllocError>
+    ensures { IfOk result (λ out. out.items ≡ flat_map answer_text (answers_from tree.limits tree.tree 0 lines.now)) }
 {
-    let mut tree = Tree::new(alloc, NODES, ROOM, VERSION)?;
+    let mut tree = tree;
     let mut out = Vec::new(alloc);
     for (ticket, line) in lines.iter().enumerate() {
         answer_line(alloc, &mut tree, ticket as u64, line, &mut out)?;

@@ -41,6 +41,7 @@ pub fn scan_all<D: Disk>(areas: &mut [Area<D>], counts: &mut Vec<usize>) -> Resu
     requires few { length areas.old ≤ MAX_CORES }
     requires none { counts.old.items ≡ [] }
     ensures counted { OnOk result (AreCounted D.view areas.old counts.new.items (length areas.old)) }
+    ensures many { OnOk result (length counts.new.items ≡ length areas.old) }
     ensures read { AreRead D.view areas.old areas.new }
     ensures cause { IfErr result (StopsAt D.view areas.old areas.new counts.new.items) }
 {

@@ -57,7 +57,7 @@ fn take_out<H: Shelf>(shelf: &mut H, device: Device, name: &str) -> Result<H::D,
 }
 
 /// The fault of a home that was not opened.
-fn home_fault(fault: HomeFault) -> Fault
+pub(crate) fn home_fault(fault: HomeFault) -> Fault
     ensures { result ≡ fault_of_home fault }
 {
     match fault {

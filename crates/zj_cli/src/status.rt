@@ -5,6 +5,7 @@ ghost use Rattle.std.specs.Prelude.{◌≡◌, option_copied};
 use std::alloc::AllocError;
 use thiserror::Error;
 use zj_dev::{Device, ReadFailed, WriteFailed};
+use zj_layout::TreeFault;
 
 /// Why an image is refused.
 #[derive(Clone, Copy, Debug, PartialEq, Eq, Error)]
@@ -12,6 +13,11 @@ pub enum ImageFault {
     /// No such device is at hand.
     #[error("absent {device}")]
     Absent {
+        device: Device,
+    },
+    /// A device of that name is there already, or something else has the name.
+    #[error("exists {device}")]
+    Exists {
         device: Device,
     },
     /// Home is no home: the first byte that tells it is the one at this place.
@@ -39,6 +45,12 @@ pub enum ImageFault {
         at: u64,
         found: u64,
         expected: u64,
+    },
+    /// The blocks of home show no tree: a rule fails, and this is the lowest block at which it does.
+    #[error("notree rule {rule} block {block}")]
+    NoTree {
+        rule: u32,
+        block: u32,
     },
     /// The image has that device, and more than one core can't be checked yet.
     #[error("unbuilt {device}")]
@@ -91,6 +103,20 @@ impl From<AllocError> for Fault {
 
     fn from(_error: AllocError) -> Fault {
         Fault::Memory
+    }
+}
+
+impl From<TreeFault> for Fault {
+    ghost use Rattle.std.specs.Prelude.{◌≡◌};
+    ghost use Rattle.zj_cli.specs.Mount.{fault_of_tree};
+
+    ghost from_gives = { λ fault told. told ≡ fault_of_tree fault };
+
+    fn from(fault: TreeFault) -> Fault {
+        match fault {
+            TreeFault::NoTree { rule, block } => Fault::Image(ImageFault::NoTree { rule, block }),
+            TreeFault::NoMemory => Fault::Memory,
+        }
     }
 }
 

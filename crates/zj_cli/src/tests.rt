@@ -2,6 +2,7 @@
 //! the texts of faults.
 
 mod check;
+mod make;
 mod play;
 
 use super::*;
@@ -23,20 +24,37 @@ fn words_of(alloc: Global, texts: &[&str]) -> Result<Vec<String>, AllocError> {
     Ok(words)
 }
 
-/// The status of a call of the tool, and what it wrote.
+/// The status of a call of the tool over a shelf with an image of 64 blocks, 8 nodes and one core that was just made,
+/// and what it wrote.
 fn outcome(alloc: Global, words: &[&str], input: &[u8]) -> Result<(Status, Vec<u8>), AllocError> {
-    let words = words_of(alloc, words)?;
     let mut shelf = MemShelf::new(alloc)?;
+    call(alloc, &mut shelf, &["make", "64", "8", "1", "50752"], b"")?;
+    call(alloc, &mut shelf, words, input)
+}
+
+/// The status of a call of the tool over a shelf, and what it wrote.
+fn call(
+    alloc: Global,
+    shelf: &mut MemShelf,
+    words: &[&str],
+    input: &[u8],
+) -> Result<(Status, Vec<u8>), AllocError> {
+    let words = words_of(alloc, words)?;
     let mut source = MemSource::new(alloc, input, &[])?;
     let mut sink = MemSink::new(alloc, &[])?;
-    let status = zj_tool(alloc, &words, &mut shelf, &mut source, &mut sink);
+    let status = zj_tool(alloc, &words, shelf, &mut source, &mut sink);
     let written = Vec::from_slice(alloc, sink.bytes())?;
     Ok((status, written))
 }
 
 #[test]
 fn refuses_other_words(rt: HostRuntime) -> Result<(), Fail> {
-    let table: [&[&str]; 6] = [
+    let table: [&[&str]; 11] = [
+        &["make", "64"],
+        &["make", "64", "8", "1", "050752"],
+        &["make", "64", "9", "1", "50752"],
+        &["make", "64", "8", "1", "50751"],
+        &["make", "16", "128", "1", "50752"],
         &["mak"],
         &[],
         &["play", "play"],
@@ -64,6 +82,18 @@ fn spells_faults(rt: HostRuntime) -> Result<(), Fail> {
             }),
             3,
             "image absent home",
+        ),
+        (
+            Fault::Image(ImageFault::Exists {
+                device: Device::Journal(0),
+            }),
+            3,
+            "image exists j0",
+        ),
+        (
+            Fault::Image(ImageFault::NoTree { rule: 5, block: 9 }),
+            3,
+            "image notree rule 5 block 9",
         ),
         (
             Fault::Image(ImageFault::NotAnImage { at: 41 }),

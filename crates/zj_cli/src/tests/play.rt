@@ -1,6 +1,6 @@
 //! `play`: scripts and their answers, limits, and faults of the streams.
 
-use super::{NO_SCRIPT, outcome, words_of};
+use super::{NO_SCRIPT, call, outcome, words_of};
 use crate::{Fault, zj_tool};
 use std::test::Fail;
 use zj_dev::{MemShelf, MemSink, MemSource};
@@ -108,6 +108,7 @@ fn tells_faults_of_the_streams(rt: HostRuntime) -> Result<(), Fail> {
         let mut source = MemSource::new(alloc, b"0 list /\n", reads)?;
         let mut sink = MemSink::new(alloc, writes)?;
         let mut shelf = MemShelf::new(alloc)?;
+        call(alloc, &mut shelf, &["make", "64", "8", "1", "50752"], b"")?;
         let status = zj_tool(alloc, &words, &mut shelf, &mut source, &mut sink);
         assert_eq!(rt; status.fault().copied(), want);
         assert_eq!(rt; sink.bytes(), text.as_bytes());

@@ -1,6 +1,6 @@
-use Rattle.std.proofs.Common.{◌≡◌, ◌∙◌, ℕ, List, length, ◌++◌, refl, sym, ap, subst, inl, inr}
-use Rattle.std.specs.Prelude.{Option}
+use Rattle.std.proofs.Common.{◌∙◌, length, refl, sym, ap, subst}
 use Rattle.std.specs.Result.{result_err}
+use Rattle.zj_dev.proofs.DiskLaws.{reads_refl}
 use Rattle.zj_cli.specs.Check.{CheckEnds}
 use Rattle.zj_cli.specs.Outside.{Outside}
 use Rattle.zj_cli.proofs.CheckLemmas.{as_many, checks, close_cause, closes, read_cause}
@@ -18,7 +18,7 @@ returns-clause-runs g c left input_faults =
     let super = c.in_ok-home.field-0.home.told in
     let old = c.deref_mut.result.now in
     let new = c.print_set-printed.new.areas in
-    let both = closes view before mid now home c.in_ok-home.field-0.areas.items old new c.in_ok-home.field-0.areas.len c.in_ok-home.ensures.out c.deref_mut.ensures.value c.print_set-printed.ensures.read (c.print_set-printed.auto.areas ∙ c.deref_mut.ensures.len) (c.close_set-closed.ensures.closed before) in
+    let both = closes view before mid now home home c.in_ok-home.field-0.areas.items old new c.in_ok-home.field-0.areas.len c.in_ok-home.ensures.out (reads_refl home) c.deref_mut.ensures.value c.print_set-printed.ensures.read (c.print_set-printed.auto.areas ∙ c.deref_mut.ensures.len) (c.close_set-closed.ensures.closed before) in
     let opened = rw (← c.deref_mut.ensures.value) at c.in_ok-home.ensures.opened in
     let outside : Outside = record { left = left; held = g.K.Sink.held c.args.out.now; names = before; input_faults = input_faults; output_faults = g.K.Sink.faults c.args.out.now; shelf_faults = g.H.Shelf.faults c.args.shelf.now } in
     let after : Outside = record { left = left; held = g.K.Sink.held c.print_set-printed.new.out; names = now; input_faults = input_faults; output_faults = g.K.Sink.faults c.print_set-printed.new.out; shelf_faults = g.H.Shelf.faults c.close_set-closed.new.shelf } in

@@ -1,4 +1,4 @@
-use Rattle.std.proofs.Common.{◌<◌, ◌∙◌, arith, ap, refl, subst}
+use Rattle.std.proofs.Common.{◌<◌, ◌∙◌, arith, ap, subst}
 use Rattle.std.proofs.lemmas.Result.{err_from_is_err_and}
 use Rattle.zj_block.specs.Sizes.{Numbers}
 use Rattle.zj_dev.specs.Shelf.{Slot}
