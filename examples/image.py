@@ -21,6 +21,13 @@ def home(cores=1, area=AREA, blocks=BLOCKS, nodes=NODES, epoch=1):
     return slot.ljust(8192 + 512 * blocks, b"\0")
 
 
+def new_home():
+    """The home of a new image: the map, of which the blocks of map and nodes are in use, and node 0, a directory."""
+    used = 1 + NODES // 8
+    in_use = bytes(block < used or block >= BLOCKS for block in range(512))
+    return home()[:8192] + (in_use + b"\x02").ljust(512 * BLOCKS, b"\0")
+
+
 def record(number=0, gate=1, blocks=()):
     """A record of the only core: the number of its transaction, and (block, stamp, content) of each block."""
     head = struct.pack("<QQIIQ", gate, number, len(blocks), 1, 0)

@@ -3,8 +3,9 @@
 
     examples/run.py PROGRAM
 
-A script `examples/NAME.script` is played, and its answers have to be those of `examples/NAME.answers`. Then `check`
-reads images that are whole, cut, overwritten, swapped and absent; its answer, its status and the files are compared.
+`make` makes an image, and its bytes are compared. A script `examples/NAME.script` is played on such an image, and its
+answers have to be those of `examples/NAME.answers`. Then `check` and `play` read images that are whole, cut, overwritten,
+swapped and absent; the answer, the status and the files are compared.
 """
 import glob
 import os
@@ -12,9 +13,10 @@ import subprocess
 import sys
 import tempfile
 
-from image import home, journal, record, with_byte, write
+from image import home, journal, new_home, record, with_byte, write
 
 HERE = os.path.dirname(os.path.abspath(__file__))
+MAKE = ("make", "64", "8", "1", "50752")
 
 
 def found(count):
@@ -26,7 +28,8 @@ def refused(text):
 
 
 GOOD = journal(record())
-IMAGES = [
+NEW = {"home": new_home(), "j0": journal()}
+CHECKED = [
     ("an empty journal", {"home": home(), "j0": journal()}, found(0)),
     ("one transaction", {"home": home(), "j0": GOOD}, found(1)),
     ("a gate that isn't open", {"home": home(), "j0": with_byte(GOOD, 0, 7)}, found(0)),
@@ -53,6 +56,16 @@ IMAGES = [
      refused("unbuilt j1")),
 ]
 
+PLAYED = [
+    ("a new image", NEW, (0, "1 0 0 names\n", "")),
+    ("an empty folder", {}, refused("absent home")),
+    ("no journal", {"home": new_home()}, refused("absent j0")),
+    ("a journal with a record", {"home": new_home(), "j0": GOOD}, refused("unbuilt j0")),
+    ("blocks of zeros", {"home": home(), "j0": journal()}, refused("notree rule 1 block 1")),
+    ("a free block in use", {"home": with_byte(new_home(), 8192 + 2, 1), "j0": journal()},
+     refused("notree rule 6 block 0")),
+]
+
 
 def compare(what, answer, want):
     """1 where an answer differs, which is told, and else 0."""
@@ -62,15 +75,10 @@ def compare(what, answer, want):
     return 1
 
 
-def play(program, script):
-    with open(script, "rb") as lines, open(script.removesuffix("script") + "answers", "rb") as answers:
-        run = subprocess.run([program, "play"], stdin=lines, capture_output=True)
-        return compare(os.path.basename(script), (run.returncode, run.stdout, run.stderr), (0, answers.read(), b""))
-
-
-def check(program, folder):
-    run = subprocess.run([program, "check"], cwd=folder, capture_output=True, text=True)
-    return run.returncode, run.stdout, run.stderr
+def run(program, folder, *words, lines=b""):
+    """The status of the program with these words in a folder, and what it writes to its two outputs."""
+    done = subprocess.run([program, *words], cwd=folder, input=lines, capture_output=True)
+    return done.returncode, done.stdout.decode(), done.stderr.decode()
 
 
 def contents(folder):
@@ -81,19 +89,50 @@ def contents(folder):
     return files
 
 
+def make(program):
+    """Makes an image, tries it again there, and tries it over a home."""
+    with tempfile.TemporaryDirectory() as folder:
+        failed = compare("make", run(program, folder, *MAKE), (0, "", ""))
+        failed += compare("a second make", run(program, folder, *MAKE), refused("exists j0"))
+        failed += compare("make, the files", contents(folder) == NEW, True)
+    with tempfile.TemporaryDirectory() as folder:
+        write(folder, {"home": b""})
+        failed += compare("make over a home", run(program, folder, *MAKE), refused("exists home"))
+        failed += compare("make over a home, the files", contents(folder) == {"home": b"", "j0": journal()}, True)
+    return failed
+
+
+def play(program, script):
+    """Plays a script on an image that the program made."""
+    name = os.path.basename(script)
+    with open(script, "rb") as file:
+        lines = file.read()
+    with open(script.removesuffix("script") + "answers") as file:
+        want = 0, file.read(), ""
+    with tempfile.TemporaryDirectory() as folder:
+        failed = compare("make for " + name, run(program, folder, *MAKE), (0, "", ""))
+        failed += compare(name, run(program, folder, "play", lines=lines), want)
+        return failed + compare(name + ", the files", contents(folder) == NEW, True)
+
+
+def read(program, command, what, files, want):
+    """Runs a command on an image that it only reads."""
+    with tempfile.TemporaryDirectory() as folder:
+        write(folder, files)
+        failed = compare(f"{command}, {what}", run(program, folder, command, lines=b"0 list /\n"), want)
+        return failed + compare(f"{command}, {what}, the files", contents(folder) == files, True)
+
+
 def main(program):
     program = os.path.realpath(program)
     scripts = sorted(glob.glob(os.path.join(HERE, "*.script")))
-    failed = sum(play(program, script) for script in scripts)
-    for what, files, want in IMAGES:
-        with tempfile.TemporaryDirectory() as folder:
-            write(folder, files)
-            failed += compare(what, check(program, folder), want)
-            failed += compare(what + ", the files", contents(folder) == files, True)
+    failed = make(program) + sum(play(program, script) for script in scripts)
+    for command, images in (("check", CHECKED), ("play", PLAYED)):
+        failed += sum(read(program, command, *image) for image in images)
     with tempfile.TemporaryDirectory() as folder:
         os.symlink("home", os.path.join(folder, "home"))
-        failed += compare("a home that can't be opened", check(program, folder), (4, "", "zj: device home\n"))
-    print(f"{len(scripts)} scripts played, {len(IMAGES) + 1} images checked, {failed} answers differ")
+        failed += compare("a home that can't be opened", run(program, folder, "check"), (4, "", "zj: device home\n"))
+    print(f"{len(scripts)} scripts played, {len(CHECKED) + 1} images checked and {len(PLAYED)} played, {failed} answers differ")
     return failed != 0
 
 

@@ -39,6 +39,3 @@ mod renaming;
 mod stopped;
 
 pub use outcome::Outcome;
-
-#[cfg(test)]
-mod tests;
