@@ -3,7 +3,7 @@
 ghost use Rattle.std.specs.Prelude.{◌≡◌, ◌^◌, ◌<◌, IfOk, IfErr, OnOk, OnErr, IfSome, All, length, slice_get, take, vec_len};
 ghost use Rattle.zj_block.specs.Block.{IsContent, bytes_of};
 ghost use Rattle.zj_dev.specs.Fault.{Rose};
-ghost use Rattle.zj_dev.specs.Disk.{Continues, OnlyReads};
+ghost use Rattle.zj_dev.specs.Disk.{LeavesAll, Continues, OnlyReads};
 ghost use Rattle.zj_home.specs.Home.{IsCause};
 ghost use Rattle.zj_home.specs.Made.{IsMade, IsFailure, MakesOnly, first_super};
 ghost use Rattle.zj_home.specs.Told.{super_told};
@@ -144,6 +144,7 @@ impl<D: Disk> Home<D> {
         ensures block { OnOk result (IfSome (D.view self.old.device).bytes (λ image. bytes_of into.new ≡ block_bytes_in image b.0)) }
         ensures content { OnOk result (IsContent into.new) }
         ensures into_kept { OnErr result (into.new ≡ into.old) }
+        ensures device_left { LeavesAll (D.view self.old.device) (D.view self.new.device) }
         ensures read_only { OnlyReads (D.view self.old.device) (D.view self.new.device) }
         ensures told { self.new.told ≡ self.old.told }
         ensures cause { OnErr result (Rose (D.view self.old.device).faults (D.view self.new.device).faults) }
