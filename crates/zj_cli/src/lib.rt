@@ -2,6 +2,7 @@
 //! the bytes of the output and the status.
 #![tactic(auto)]
 
+mod asked;
 mod check;
 mod close;
 mod make;

@@ -1,4 +1,4 @@
-//! `play`: a script's calls in order, each on the tree that those before it left.
+//! `play`: the calls of a schedule in order, each on the tree that those before it left.
 
 ghost use Rattle.std.specs.Prelude.{◌≡◌, ◌≢◌, ◌⊎◌, ◌++◌, ℕ, IfErr, IfOk, IsErr, OnOk, OnErr};
 ghost use Rattle.std.specs.List.{flat_map};
@@ -12,11 +12,12 @@ ghost use Rattle.zj_script.specs.Answers.{answer_text};
 ghost use Rattle.zj_cli.specs.declared.status.Fault.TheVariants as faults;
 ghost use Rattle.zj_cli.specs.Mount.{HasTree, IsMountCause};
 ghost use Rattle.zj_cli.specs.Opening.{AllOpened};
-ghost use Rattle.zj_cli.specs.Play.{RunsPlay, ScriptEnds, answer_to, answers_from};
+ghost use Rattle.zj_cli.specs.Play.{RunsPlay, ScriptEnds, answer_to, answers_from, calls_of};
 ghost use Rattle.zj_cli.specs.Scanning.{AreRead};
 ghost use Rattle.zj_cli.specs.Tool as tool;
 ghost use Rattle.zj_cli.specs.Tool.{IsBeforeWriting};
 
+use crate::asked::read_built;
 use crate::close::close_set;
 use crate::mount::mount;
 use crate::set::{Set, open_set};
@@ -26,10 +27,10 @@ use std::alloc::{AllocError, Global};
 use zj_area::Area;
 use zj_dev::{Disk, Shelf, Sink, Source};
 use zj_home::Home;
-use zj_script::{Answer, Line, read_script, write_answer};
-use zj_tree::Tree;
+use zj_script::{Act, Answer, Form, Line, write_answer};
+use zj_tree::{Bytes, Call, Tree};
 
-/// Reads a script, makes its calls on the tree of the image on a shelf, and writes their answers. It writes no device, and all
+/// Reads a schedule, makes its calls on the tree of the image on a shelf, and writes their answers. It writes no device, and all
 /// that it opened is closed again.
 ///
 /// The first fault in this order counts: opening, reading the devices, the input, the script, writing to `out`, closing.
@@ -54,7 +55,7 @@ pub fn play<H: Shelf, S: Source, K: Sink>(
     played.and(closed)
 }
 
-/// Plays a script from the tree on that an image shows which was opened.
+/// Plays a schedule from the tree on that an image shows which was opened.
 fn play_set<D: Disk, S: Source, K: Sink>(
     alloc: Global,
     home: &mut Home<D>,
@@ -78,7 +79,7 @@ fn play_set<D: Disk, S: Source, K: Sink>(
     play_script(alloc, home.sizes().cores(), tree, input, out)
 }
 
-/// Reads a script for so many cores, makes its calls from a tree on, and writes their answers.
+/// Reads a schedule for so many cores, makes its calls from a tree on, and writes their answers.
 fn play_script<S: Source, K: Sink>(
     alloc: Global,
     cores: u32,
@@ -92,44 +93,45 @@ fn play_script<S: Source, K: Sink>(
         (result_err result) }
     ensures unwritten { OnErr result (result ≢ Err faults.Output → out.new ≡ out.old) }
 {
-    let script = read_whole(alloc, input)?;
-    let Some(lines) = read_script(alloc, cores, &script)? else {
-        return Err(Fault::NO_SCRIPT);
-    };
-    let answers = answer_lines(alloc, tree, &lines)?;
-    write_whole(out, &answers)
+    let text = read_whole(alloc, input)?;
+    let schedule = read_built(alloc, cores, &text)?;
+    let answers = answer_lines(alloc, tree, schedule.as_slice())?;
+    write_whole(out, answers.as_slice())
 }
 
-/// The text of the answers to the lines, from a tree on.
-fn answer_lines(alloc: Global, tree: Tree, lines: &[Line]) -> Result<Vec<u8>, AllocError>
-    ensures { IfOk result (λ out. out.items ≡ flat_map answer_text (answers_from tree.limits tree.tree 0 lines.now)) }
+/// The answers to the lines, from a tree on.
+fn answer_lines(alloc: Global, tree: Tree, lines: &[Line]) -> Result<Bytes, AllocError>
+    ensures { IfOk result (λ out. out ≡ flat_map answer_text (answers_from tree.limits tree.tree 0 (calls_of lines.now))) }
 {
     let mut tree = tree;
-    let mut out = Vec::new(alloc);
-    for (ticket, line) in lines.iter().enumerate() {
-        answer_line(alloc, &mut tree, ticket as u64, line, &mut out)?;
+    let mut out = Bytes::new(alloc);
+    let mut ticket = 0;
+    for line in lines {
+        if let Act::Call(call) = &line.act {
+            answer_call(&mut tree, ticket, line, call, &mut out)?;
+            ticket += 1;
+        }
     }
     Ok(out)
 }
 
 /// Makes the call of a line, and adds its answer.
-fn answer_line(
-    alloc: Global,
+fn answer_call(
     tree: &mut Tree,
     ticket: u64,
     line: &Line,
-    out: &mut Vec<u8>,
+    call: &Call,
+    out: &mut Bytes,
 ) -> Result<(), AllocError>
-    ensures answer { OnOk result (out.new.items ≡ out.old.items ++ answer_text (answer_to tree.old.limits tree.old.tree ticket line.now)) }
-    ensures tree { OnOk result (tree.new.tree ≡ (apply tree.old.limits line.now.call tree.old.tree).1) }
+    ensures answer { OnOk result (out.new ≡ out.old ++ answer_text (answer_to tree.old.limits tree.old.tree ticket (line.now, call.now))) }
+    ensures tree { OnOk result (tree.new.tree ≡ (apply tree.old.limits call.now tree.old.tree).1) }
     ensures limits { tree.new.limits ≡ tree.old.limits }
 {
-    let reply = tree.apply(&line.call)?;
+    let reply = tree.apply(call)?;
     let answer = Answer {
         line: line.number,
         core: line.core,
-        ticket,
-        reply,
+        form: Form::Drew { ticket, reply },
     };
-    write_answer(alloc, &answer, out)
+    write_answer(&answer, out)
 }

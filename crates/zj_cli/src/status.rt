@@ -6,6 +6,7 @@ use std::alloc::AllocError;
 use thiserror::Error;
 use zj_dev::{Device, ReadFailed, WriteFailed};
 use zj_layout::TreeFault;
+use zj_script::ScriptFault;
 
 /// Why an image is refused.
 #[derive(Clone, Copy, Debug, PartialEq, Eq, Error)]
@@ -52,7 +53,8 @@ pub enum ImageFault {
         rule: u32,
         block: u32,
     },
-    /// The image has that device, and more than one core can't be checked yet.
+    /// The journal holds a record, and the image can't be played yet; or the image has that journal besides `j0`, and can't
+    /// be checked yet.
     #[error("unbuilt {device}")]
     Unbuilt {
         device: Device,
@@ -65,8 +67,7 @@ pub enum Fault {
     /// The words name no command.
     #[error("words")]
     Words,
-    /// The input is no script. Line and column count from 1; until scripts are read with their places all
-    /// three are 0.
+    /// The input is refused. The kind is the number of a `zj_script::Kind`; line and column count from 1.
     #[error("script line {line} column {column} kind {kind}")]
     Script { kind: u32, line: u32, column: u32 },
     /// The image is refused.
@@ -84,15 +85,6 @@ pub enum Fault {
     /// The output failed.
     #[error("output")]
     Output,
-}
-
-impl Fault {
-    /// The fault of an input that is no script.
-    pub(crate) const NO_SCRIPT: Fault = Fault::Script {
-        kind: 0,
-        line: 0,
-        column: 0,
-    };
 }
 
 impl From<AllocError> for Fault {
@@ -116,6 +108,20 @@ impl From<TreeFault> for Fault {
         match fault {
             TreeFault::NoTree { rule, block } => Fault::Image(ImageFault::NoTree { rule, block }),
             TreeFault::NoMemory => Fault::Memory,
+        }
+    }
+}
+
+impl From<ScriptFault> for Fault {
+    ghost use Rattle.std.specs.Prelude.{◌≡◌};
+    ghost use Rattle.zj_cli.specs.Asked.{fault_of_script};
+
+    ghost from_gives = { λ fault told. told ≡ fault_of_script fault };
+
+    fn from(fault: ScriptFault) -> Fault {
+        match fault {
+            ScriptFault::Refused { kind, line, column } => Fault::Script { kind, line, column },
+            ScriptFault::NoMemory => Fault::Memory,
         }
     }
 }

@@ -1,5 +1,12 @@
 pub mod Numbers
 pub mod Splitting
-pub mod Words
-pub mod Lines
+pub mod Spelling
 pub mod Texts
+pub mod Leaving
+pub mod Arguments
+pub mod Openings
+pub mod LineEnds
+pub mod Inputs
+pub mod Adding
+pub mod Unique
+pub mod Faults

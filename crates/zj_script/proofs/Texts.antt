@@ -4,7 +4,7 @@ use Rattle.std.specs.Char.{digit_char}
 use Rattle.std.specs.List.{list_all}
 use Rattle.std.proofs.lemmas.Bool.Decides.{nat_tests}
 use Rattle.zj_script.specs.Text.{byte_text, bytes_text, has_text, is_plain}
-use Rattle.zj_script.proofs.Words.{IsWord, first, second, word_append}
+use Rattle.zj_script.proofs.Spelling.{IsWord, first, second, word_append}
 
 -- a digit tells its number
 pub one_digit : (a b : ℕ) → a < 16 → b < 16 → digit_char a ≡ digit_char b → a ≡ b

@@ -1,9 +1,12 @@
 pub mod Text
-pub mod Words
 pub mod Parts
+pub mod Words
 pub mod Number
-pub mod Calls
+pub mod Grammar
+pub mod Refusals
+pub mod Reading
+pub mod Lines
 pub mod Script
+pub mod Writing
 pub mod Answers
 pub mod Laws
-pub mod Writing

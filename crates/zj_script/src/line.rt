@@ -1,134 +1,144 @@
-//! A line: the core that it runs on, and its call.
+//! Acts, and the lines that ask for them.
 
-ghost use Rattle.std.specs.Prelude.{◌≡◌, List, ℕ, ◌∷◌, ◌++◌, ◌<◌, ◌^◌, IfSome, IfNone, IfOk, IsTrue, decimal};
-ghost use Rattle.zj_tree.specs.declared.call.Call.{Call};
+ghost use Rattle.std.specs.Prelude.{◌≡◌, ◌<◌, ◌≢◌, ◌∷◌, ◌++◌, IfOk, IfErr, IsTrue, Option};
 ghost use Rattle.zj_tree.specs.Path.{is_path, path_text};
-ghost use Rattle.zj_script.specs.declared.verb.Verb.{Verb};
-ghost use Rattle.zj_script.specs.Text.{bytes_text, has_text};
-ghost use Rattle.zj_script.specs.Calls.{call_words, has_spelling, verb_word};
-ghost use Rattle.zj_script.specs.Parts.{parts_left};
+ghost use Rattle.zj_script.specs.declared.line.Act.TheVariants as acts_of;
+ghost use Rattle.zj_script.specs.Grammar.{act_parts, argument_parts, has_core, has_spelling, is_act, line_parts, path_part, verb_of, words_of};
+ghost use Rattle.zj_script.specs.Parts.{parts_of};
+ghost use Rattle.zj_script.specs.Reading.{AreArguments, AreOfAct, IsActOf, LineStops, Stops, StopsActOf};
+ghost use Rattle.zj_script.specs.Words.{words_left};
+ghost use Rattle.std.specs.Str.{byte};
 
-use crate::number::read_number;
-use crate::parts::Parts;
-use crate::text::read_text;
-use crate::verb::{Verb, read_verb};
-use std::alloc::{AllocError, Global};
-use zj_tree::{Bytes, Call, Path};
+use crate::fault::Stop;
+use crate::verb::{Acts, Opening, Verb};
+use crate::words::Words;
+use std::alloc::Global;
+use zj_tree::{Call, Path};
 
-/// A line of a script.
-#[derive(Debug, Drop)]
+/// What a line asks for.
+#[derive(Debug, PartialEq, Eq, Drop)]
+pub enum Act {
+    /// A whole call.
+    Call(Call),
+    /// Opens a handle for a call, which can't be an fsync.
+    Begin(Call),
+    /// Takes the next block that the open handle needs.
+    Take,
+    /// Looks at the next block that the open handle needs, without taking it.
+    Look,
+    /// Ends the open handle: its call is made.
+    Stop,
+    /// Gives up the open handle.
+    Drop,
+    /// Commits the core's running transaction.
+    Commit,
+    /// Tries for a receipt of what the core committed.
+    Sync,
+    /// Writes all that was committed home. It has no core.
+    Checkpoint,
+}
+
+/// A line with an act.
+#[derive(Debug, PartialEq, Eq, Drop)]
 pub struct Line {
-    /// Its number in the input, from 1.
+    /// Its number in the input, from 1. Lines without an act count.
     pub number: u32,
-    /// The core that it runs on.
-    pub core: u32,
-    pub call: Call,
+    /// The core that it runs on; None for a checkpoint alone.
+    pub core: Option<u32>,
+    pub act: Act,
 }
 
-/// Reads a core. None exactly where the next word is none below the count of cores.
-pub(crate) fn read_core(cores: u32, words: &mut Parts<'_>) -> Option<u32>
-    ensures some { IfSome result (λ core. (core < cores) × (parts_left words.old ≡ decimal core ∷ parts_left words.new)) }
-    ensures none { IfNone result ((core : ℕ) (more : List (List ℕ)) → core < cores → parts_left words.old ≡ decimal core ∷ more → ⊥) }
-{
-    let core = next_number(words)?;
-    if core < cores { Some(core) } else { None }
-}
-
-/// Reads the words of a call. None exactly where no call's words are next.
-pub(crate) fn read_call(alloc: Global, words: &mut Parts<'_>) -> Result<Option<Call>, AllocError>
-    ensures some { IfOk result (λ found. IfSome found (λ call. IsTrue (has_spelling call) × (parts_left words.old ≡ call_words call ++ parts_left words.new))) }
-    ensures none { IfOk result (λ found. IfNone found ((call : Call) (more : List (List ℕ)) → IsTrue (has_spelling call) → parts_left words.old ≡ call_words call ++ more → ⊥)) }
-{
-    let Some(verb) = next_verb(words) else {
-        return Ok(None);
-    };
-    match next_path(alloc, words)? {
-        Some(path) => read_rest(alloc, verb, path, words),
-        None => Ok(None),
-    }
-}
-
-/// Reads what stands behind a verb and its path. None exactly where that is no call's.
-fn read_rest(
+/// Reads the words of a line: its core and its act.
+pub(crate) fn read_words(
     alloc: Global,
-    verb: Verb,
-    path: Path,
-    words: &mut Parts<'_>,
-) -> Result<Option<Call>, AllocError>
-    requires { IsTrue (is_path path) }
-    ensures some { IfOk result (λ found. IfSome found (λ call. IsTrue (has_spelling call) × (verb_word verb ∷ path_text path ∷ parts_left words.old ≡ call_words call ++ parts_left words.new))) }
-    ensures none { IfOk result (λ found. IfNone found ((call : Call) (more : List (List ℕ)) → IsTrue (has_spelling call) → verb_word verb ∷ path_text path ∷ parts_left words.old ≡ call_words call ++ more → ⊥)) }
+    acts: Acts,
+    cores: u32,
+    text: &[u8],
+) -> Result<(Option<u32>, Act), Stop>
+    ensures ok { IfOk result (λ found. IsTrue (has_core cores found.0 found.1) × IsTrue (is_act acts found.1) × (parts_of (byte " ") text.now ≡ words_of (line_parts found.0 found.1))) }
+    ensures err { IfErr result (LineStops acts cores (parts_of (byte " ") text.now)) }
 {
-    match verb {
-        Verb::Mkdir => Ok(Some(Call::Mkdir { path })),
-        Verb::Create => Ok(Some(Call::Create { path })),
-        Verb::Unlink => Ok(Some(Call::Unlink { path })),
-        Verb::Rmdir => Ok(Some(Call::Rmdir { path })),
-        Verb::List => Ok(Some(Call::List { path })),
-        Verb::Stat => Ok(Some(Call::Stat { path })),
-        Verb::Rename => match next_path(alloc, words)? {
-            Some(to) => Ok(Some(Call::Rename { from: path, to })),
-            None => Ok(None),
-        },
-        Verb::Truncate => match next_number(words) {
-            Some(size) => Ok(Some(Call::Truncate { path, size })),
-            None => Ok(None),
-        },
-        Verb::Read => {
-            let Some(at) = next_number(words) else {
-                return Ok(None);
-            };
-            match next_number(words) {
-                Some(count) => Ok(Some(Call::Read { path, at, count })),
-                None => Ok(None),
-            }
-        }
-        Verb::Write => {
-            let Some(at) = next_number(words) else {
-                return Ok(None);
-            };
-            match next_text(alloc, words)? {
-                Some(bytes) => Ok(Some(Call::Write { path, at, bytes })),
-                None => Ok(None),
-            }
+    let mut words = Words::new(text);
+    let core = words.core(acts, cores)?;
+    let act = words.act_of(alloc, acts, core)?;
+    words.end()?;
+    Ok((core, act))
+}
+
+impl Words<'_> {
+    /// Reads the act of a core, or of none, which is a checkpoint.
+    fn act_of(&mut self, alloc: Global, acts: Acts, core: Option<u32>) -> Result<Act, Stop>
+        ensures ok { IfOk result (λ act. IsActOf acts core act × (words_left self.old ≡ words_of (act_parts act) ++ words_left self.new)) }
+        ensures err { IfErr result (StopsActOf acts core (words_left self.old)) }
+    {
+        match core {
+            Some(_) => self.act(alloc, acts),
+            None => Ok(Act::Checkpoint),
         }
     }
-}
 
-/// The verb that is the next word. None exactly where that is none.
-fn next_verb(words: &mut Parts<'_>) -> Option<Verb>
-    ensures some { IfSome result (λ verb. parts_left words.old ≡ verb_word verb ∷ parts_left words.new) }
-    ensures none { IfNone result ((verb : Verb) (more : List (List ℕ)) → parts_left words.old ≡ verb_word verb ∷ more → ⊥) }
-{
-    read_verb(words.next()?)
-}
-
-/// The number that is the next word. None exactly where that is none below 2^32.
-fn next_number(words: &mut Parts<'_>) -> Option<u32>
-    ensures some { IfSome result (λ number. parts_left words.old ≡ decimal number ∷ parts_left words.new) }
-    ensures none { IfNone result ((number : ℕ) (more : List (List ℕ)) → number < 2 ^ 32 → parts_left words.old ≡ decimal number ∷ more → ⊥) }
-{
-    read_number(words.next()?)
-}
-
-/// The bytes that the next word spells. None exactly where it spells none.
-fn next_text(alloc: Global, words: &mut Parts<'_>) -> Result<Option<Bytes>, AllocError>
-    ensures some { IfOk result (λ found. IfSome found (λ bytes. IsTrue (has_text bytes) × (parts_left words.old ≡ bytes_text bytes ∷ parts_left words.new))) }
-    ensures none { IfOk result (λ found. IfNone found ((bytes : List ℕ) (more : List (List ℕ)) → IsTrue (has_text bytes) → parts_left words.old ≡ bytes_text bytes ∷ more → ⊥)) }
-{
-    match words.next() {
-        Some(word) => read_text(alloc, word),
-        None => Ok(None),
+    /// Reads an act that has a core.
+    fn act(&mut self, alloc: Global, acts: Acts) -> Result<Act, Stop>
+        ensures ok { IfOk result (λ act. IsTrue (is_act acts act) × (act ≢ acts_of.Checkpoint) × (words_left self.old ≡ words_of (act_parts act) ++ words_left self.new)) }
+        ensures err { IfErr result (Stops (AreOfAct acts) (words_left self.old)) }
+    {
+        let opening = self.opening(acts)?;
+        match opening {
+            Opening::Call(verb) => Ok(Act::Call(self.arguments(alloc, verb)?)),
+            Opening::Begin => {
+                let verb = self.begun()?;
+                Ok(Act::Begin(self.arguments(alloc, verb)?))
+            }
+            Opening::Take => Ok(Act::Take),
+            Opening::Look => Ok(Act::Look),
+            Opening::Stop => Ok(Act::Stop),
+            Opening::Drop => Ok(Act::Drop),
+            Opening::Commit => Ok(Act::Commit),
+            Opening::Sync => Ok(Act::Sync),
+        }
     }
-}
 
-/// The path that is the next word. None exactly where that is none.
-fn next_path(alloc: Global, words: &mut Parts<'_>) -> Result<Option<Path>, AllocError>
-    ensures some { IfOk result (λ found. IfSome found (λ path. IsTrue (is_path path) × (parts_left words.old ≡ path_text path ∷ parts_left words.new))) }
-    ensures none { IfOk result (λ found. IfNone found ((path : List (List ℕ)) (more : List (List ℕ)) → IsTrue (is_path path) → parts_left words.old ≡ path_text path ∷ more → ⊥)) }
-{
-    match words.next() {
-        Some(word) => Path::parse(alloc, word),
-        None => Ok(None),
+    /// Reads what stands behind a verb.
+    fn arguments(&mut self, alloc: Global, verb: Verb) -> Result<Call, Stop>
+        ensures ok { IfOk result (λ call. IsTrue (has_spelling call) × (verb_of call ≡ verb) × (words_left self.old ≡ words_of (argument_parts call) ++ words_left self.new)) }
+        ensures err { IfErr result (Stops (AreArguments verb) (words_left self.old)) }
+    {
+        let path = self.path(alloc)?;
+        self.behind_path(alloc, verb, path)
+    }
+
+    /// Reads what stands behind a verb and its path.
+    fn behind_path(&mut self, alloc: Global, verb: Verb, path: Path) -> Result<Call, Stop>
+        requires { IsTrue (is_path path) }
+        ensures ok { IfOk result (λ call. IsTrue (has_spelling call) × (verb_of call ≡ verb) × (path_text path ∷ words_left self.old ≡ words_of (argument_parts call) ++ words_left self.new)) }
+        ensures err { IfErr result (Stops (λ parts. AreArguments verb (path_part path ∷ parts)) (words_left self.old)) }
+    {
+        match verb {
+            Verb::Mkdir => Ok(Call::Mkdir { path }),
+            Verb::Create => Ok(Call::Create { path }),
+            Verb::Unlink => Ok(Call::Unlink { path }),
+            Verb::Rmdir => Ok(Call::Rmdir { path }),
+            Verb::List => Ok(Call::List { path }),
+            Verb::Stat => Ok(Call::Stat { path }),
+            Verb::Fsync => Ok(Call::Fsync { path }),
+            Verb::Rename => {
+                let to = self.path(alloc)?;
+                Ok(Call::Rename { from: path, to })
+            }
+            Verb::Truncate => {
+                let size = self.number()?;
+                Ok(Call::Truncate { path, size })
+            }
+            Verb::Read => {
+                let at = self.number()?;
+                let count = self.number()?;
+                Ok(Call::Read { path, at, count })
+            }
+            Verb::Write => {
+                let at = self.number()?;
+                let bytes = self.text(alloc)?;
+                Ok(Call::Write { path, at, bytes })
+            }
+        }
     }
 }

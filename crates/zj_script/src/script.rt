@@ -1,74 +1,214 @@
-//! Reading scripts.
+//! Scripts and schedules.
 
-ghost use Rattle.std.specs.Prelude.{◌≡◌, List, ◌∷◌, [], ◌≤◌, length, IfSome, IfNone, IfOk, IsTrue, ◌↔◌};
+ghost use Rattle.std.specs.Prelude.{◌≡◌, [], ℕ, ◌≤◌, ◌<◌, Some, None, IfOk, IfErr, IsTrue, length, slice_get, option_copied};
+ghost use Rattle.std.specs.Result.{result_err};
 ghost use Rattle.zj_script.specs.declared.line.Line.{Line};
-ghost use Rattle.zj_script.specs.Parts.{parts_left};
-ghost use Rattle.zj_script.specs.Script.{IsLine, IsScript};
+ghost use Rattle.zj_script.specs.declared.fault.ScriptFault.TheVariants as faults;
+ghost use Rattle.zj_script.specs.declared.script.TheConstants.{MAX_LINE};
+ghost use Rattle.zj_script.specs.Script.{EndsFront, EndsFrontOfSchedule, IsFault, IsInput, IsLine, IsNoSchedule, IsNoScript, IsSchedule, IsScript, LineFault, has_act, past_limit};
 
-use crate::line::{Line, read_call, read_core};
-use crate::parts::Parts;
-use std::alloc::{AllocError, Global};
+use crate::fault::{ScriptFault, Stop};
+use crate::kind::Kind;
+use crate::line::{Line, read_words};
+use crate::lines::Lines;
+use crate::verb::Acts;
+use std::alloc::Global;
+use std::marker::Model;
 
-/// How many bytes a script has at most.
+/// How many bytes an input has at most.
 pub const MAX_BYTES: usize = 16_777_216;
 
-/// How many lines a script has at most.
+/// How many lines an input has at most.
 pub const MAX_LINES: u32 = 65_536;
 
-/// The lines of a script for so many cores, or None exactly where the input is no script.
-pub fn read_script(alloc: Global, cores: u32, input: &[u8]) -> Result<Option<Vec<Line>>, AllocError>
-    ensures some { IfOk result (λ found. IfSome found (λ lines. IsScript cores input.now lines.items)) }
-    ensures none { IfOk result (λ found. IfNone found ((lines : List Line) → IsScript cores input.now lines → ⊥)) }
-{
-    if input.len() > MAX_BYTES {
-        return Ok(None);
+/// How many bytes a line has at most.
+pub const MAX_LINE: usize = 20_000;
+
+/// Calls in the order of their lines.
+#[derive(Debug, Drop)]
+pub struct Script {
+    lines: Vec<Line>,
+}
+
+impl Model for Script {
+    ghost use Rattle.std.specs.Prelude.{List};
+    ghost use Rattle.zj_script.specs.declared.line.Line.{Line};
+
+    ghost Value = { List Line };
+
+    ghost view = { λ script. script.lines.items };
+}
+
+impl Script {
+    /// How many lines have an act.
+    pub fn len(&self) -> usize
+        ensures { result ≡ length self.now }
+    {
+        self.lines.len()
     }
+
+    /// The line at a place, or None exactly from the end on.
+    pub fn at(&self, i: usize) -> Option<&Line>
+        ensures { option_copied result ≡ slice_get self.now i }
+    {
+        self.lines.get(i)
+    }
+
+    /// All lines in order.
+    pub fn as_slice(&self) -> &[Line]
+        ensures { result.now ≡ self.now }
+    {
+        &self.lines
+    }
+}
+
+/// Acts in the order of their lines.
+#[derive(Debug, Drop)]
+pub struct Schedule {
+    lines: Vec<Line>,
+}
+
+impl Model for Schedule {
+    ghost use Rattle.std.specs.Prelude.{List};
+    ghost use Rattle.zj_script.specs.declared.line.Line.{Line};
+
+    ghost Value = { List Line };
+
+    ghost view = { λ schedule. schedule.lines.items };
+}
+
+impl Schedule {
+    /// How many lines have an act.
+    pub fn len(&self) -> usize
+        ensures { result ≡ length self.now }
+    {
+        self.lines.len()
+    }
+
+    /// The line at a place, or None exactly from the end on.
+    pub fn at(&self, i: usize) -> Option<&Line>
+        ensures { option_copied result ≡ slice_get self.now i }
+    {
+        self.lines.get(i)
+    }
+
+    /// All lines in order.
+    pub fn as_slice(&self) -> &[Line]
+        ensures { result.now ≡ self.now }
+    {
+        &self.lines
+    }
+}
+
+/// The script for so many cores that an input is. `ScriptFault::Refused` exactly where it is none, with the first place
+/// that is refused.
+pub fn read_script(alloc: Global, cores: u32, input: &[u8]) -> Result<Script, ScriptFault>
+    ensures ok { IfOk result (λ script. IsScript cores input.now script) }
+    ensures err { IfErr result (IsNoScript cores input.now) }
+{
     let mut lines = Vec::new(alloc);
-    let mut number = 0;
-    let mut texts = Parts::new(input, b'\n');
-    while let Some(text) = texts.next() {
-        if is_empty_last(text, &texts) {
-            return Ok(Some(lines));
-        }
-        if number == MAX_LINES {
-            return Ok(None);
-        }
-        number += 1;
-        let Some(line) = read_line(alloc, cores, number, text)? else {
-            return Ok(None);
-        };
-        lines.push(line)?;
-    }
-    Ok(Some(lines))
+    read_lines(alloc, Acts::Script, cores, input, &mut lines)?;
+    Ok(Script { lines })
 }
 
-/// Whether a part of the input has no bytes and is the last.
-fn is_empty_last(part: &[u8], left: &Parts<'_>) -> bool
-    ensures { IsTrue result ↔ ((part.now ≡ []) × (parts_left left.now ≡ [])) }
+/// The schedule for so many cores that an input is. `ScriptFault::Refused` exactly where it is none, with the first
+/// place that is refused.
+pub fn read_schedule(alloc: Global, cores: u32, input: &[u8]) -> Result<Schedule, ScriptFault>
+    ensures ok { IfOk result (λ schedule. IsSchedule cores input.now schedule) }
+    ensures err { IfErr result (IsNoSchedule cores input.now) }
 {
-    part.is_empty() && left.is_empty()
+    let mut lines = Vec::new(alloc);
+    read_lines(alloc, Acts::Schedule, cores, input, &mut lines)?;
+    Ok(Schedule { lines })
 }
 
-/// The line that a text spells. None exactly where it spells none.
+/// The lines of a schedule for so many cores up to the first place where the input is refused as one, and that refusal.
+pub fn read_front(alloc: Global, cores: u32, input: &[u8]) -> (Schedule, Result<(), ScriptFault>)
+    ensures ok { IfOk result.1 (λ _. IsSchedule cores input.now result.0) }
+    ensures err { IfErr result.1 (IsNoSchedule cores input.now) }
+    ensures front { EndsFrontOfSchedule cores input.now result.0 (result_err result.1) }
+{
+    let mut lines = Vec::new(alloc);
+    let read = read_lines(alloc, Acts::Schedule, cores, input, &mut lines);
+    (Schedule { lines }, read)
+}
+
+/// Adds the lines with an act of an input, up to the first that is refused.
+fn read_lines(
+    alloc: Global,
+    acts: Acts,
+    cores: u32,
+    input: &[u8],
+    lines: &mut Vec<Line>,
+) -> Result<(), ScriptFault>
+    requires none { lines.old.items ≡ [] }
+    ensures ok { IfOk result (λ _. IsInput acts cores input.now lines.new.items) }
+    ensures err { IfErr result (IsFault acts cores input.now) }
+    ensures front { EndsFront acts cores input.now lines.new.items (result_err result) }
+{
+    let mut number = 0;
+    let mut texts = Lines::new(input);
+    while let Some(text) = texts.next() {
+        number += 1;
+        check_limits(number, text, texts.is_cut())?;
+        if has_act(text) {
+            lines.push(read_line(alloc, acts, cores, number, text)?)?;
+        }
+    }
+    Ok(())
+}
+
+/// Refuses a line with a byte past a limit: of the count of lines, of a line's length, or of the input.
+fn check_limits(number: u32, text: &[u8], cut: bool) -> Result<(), ScriptFault>
+    ensures ok { IfOk result (λ _. past_limit number text.now cut ≡ None) }
+    ensures err { IfErr result (λ fault. (column : ℕ) × (past_limit number text.now cut ≡ Some column) × (fault ≡ faults.Refused 6 number column)) }
+{
+    let column = if number > MAX_LINES {
+        1
+    } else if text.len() > MAX_LINE {
+        MAX_LINE as u32 + 1
+    } else if cut {
+        text.len() as u32 + 1
+    } else {
+        return Ok(());
+    };
+    Err(ScriptFault::Refused {
+        kind: Kind::TooLong.number(),
+        line: number,
+        column,
+    })
+}
+
+/// Whether a line has an act: it has a byte, and its first one is no `#`.
+fn has_act(text: &[u8]) -> bool
+    ensures { result ≡ has_act text.now }
+{
+    match text {
+        [] => false,
+        [first, ..] => *first != b'#',
+    }
+}
+
+/// The line that a text spells, or where the text leaves the grammar.
 fn read_line(
     alloc: Global,
+    acts: Acts,
     cores: u32,
     number: u32,
     text: &[u8],
-) -> Result<Option<Line>, AllocError>
-    ensures some { IfOk result (λ found. IfSome found (IsLine cores number text.now)) }
-    ensures none { IfOk result (λ found. IfNone found ((line : Line) → IsLine cores number text.now line → ⊥)) }
+) -> Result<Line, ScriptFault>
+    requires act { IsTrue (has_act text.now) }
+    requires short { length text.now ≤ MAX_LINE }
+    ensures ok { IfOk result (IsLine acts cores number text.now) }
+    ensures err { IfErr result (LineFault acts cores number text.now) }
 {
-    let mut words = Parts::new(text, b' ');
-    let Some(core) = read_core(cores, &mut words) else {
-        return Ok(None);
-    };
-    let Some(call) = read_call(alloc, &mut words)? else {
-        return Ok(None);
-    };
-    if words.is_empty() {
-        Ok(Some(Line { number, core, call }))
-    } else {
-        Ok(None)
+    match read_words(alloc, acts, cores, text) {
+        Ok((core, act)) => Ok(Line { number, core, act }),
+        Err(Stop::NoMemory) => Err(ScriptFault::NoMemory),
+        Err(Stop::Refused { kind, left }) => Err(ScriptFault::Refused {
+            kind: kind.number(),
+            line: number,
+            column: (text.len() - left) as u32 + 1,
+        }),
     }
 }

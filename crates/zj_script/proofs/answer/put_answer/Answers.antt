@@ -1,12 +1,10 @@
-use Rattle.std.proofs.Common.{◌≡◌, ◌++◌, decimal}
-use Rattle.zj_script.specs.Answers.{answer_text, reply_words}
-use Rattle.zj_script.proofs.Words.{line_added}
+use Rattle.std.proofs.Common.{decimal}
+use Rattle.zj_script.specs.Answers.{answer_core, form_words}
+use Rattle.zj_script.proofs.Adding.{adds_answer}
 use Rattle.zj_script.proofs.answer.put_answer.Goals as goal
 
 pub returns : goal.returns
 returns c =
     let answer = c.args.answer.now in
-    let text : c.push.new.self.items ≡ c.args.out.now.items ++ answer_text answer =
-    line_added c.args.out.now.items _ _ _ _ _ (decimal answer.line) (decimal answer.core) (decimal answer.ticket) (reply_words answer.reply)
-    (rw c.from.ensures at c.in_ok-put_number.ensures.all) (rw c.from-2.ensures at c.in_ok-put_spaced_number.ensures.all) c.in_ok-put_spaced_number-2.ensures.all c.in_ok-put_reply.ensures.all c.in_ok-push.ensures.items in
-    record { all = text; some = (answer_text answer, text) }
+    adds_answer c.extend.result c.args.out.now _ _ _ c.extend.new.self (decimal answer.line) (answer_core answer.core) (form_words answer.form)
+    (rw c.from.ensures at c.in_ok-put_number.ensures.all) c.in_ok-put_core.ensures.all c.in_ok-put_form.ensures.all c.extend.ensures.ok c.extend.ensures.err

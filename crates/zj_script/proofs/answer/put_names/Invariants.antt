@@ -4,4 +4,4 @@ use Rattle.zj_script.specs.Words.{spaced}
 use Rattle.zj_script.proofs.answer.put_names.Given as goal
 
 abbrev pub invariant-loop-name : goal.invariant-loop-name
-invariant-loop-name l = l.out.items ≡ l.fn.out.items ++ flat_map spaced (take l.name-index l.names)
+invariant-loop-name l = l.out ≡ l.fn.out ++ flat_map spaced (take l.name-index l.names)

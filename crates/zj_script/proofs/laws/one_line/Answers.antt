@@ -1,4 +1,4 @@
-use Rattle.zj_script.proofs.Lines.{one_line}
+use Rattle.zj_script.proofs.Unique.{one_line}
 use Rattle.zj_script.proofs.laws.one_line.Goals as goal
 
 pub returns : goal.returns

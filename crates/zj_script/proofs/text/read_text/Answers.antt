@@ -1,7 +1,7 @@
 use Rattle.std.proofs.Common.{◌≡◌, ◌<◌, length, sym, ◌∙◌, arith}
 use Rattle.std.proofs.lemmas.Bool.Decides.{nat_tests}
 use Rattle.zj_script.proofs.Texts.{behind, no_items, no_more_bytes, some_bytes}
-use Rattle.zj_script.proofs.Words.{second}
+use Rattle.zj_script.proofs.Spelling.{second}
 use Rattle.zj_script.proofs.text.read_text.Goals as goal
 
 pub returns-then-is_empty-clause-none : goal.returns-then-is_empty-clause-none

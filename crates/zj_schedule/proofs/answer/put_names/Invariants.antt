@@ -1,7 +1,0 @@
-use Rattle.std.proofs.Common.{◌≡◌, ◌++◌, take}
-use Rattle.std.specs.List.{flat_map}
-use Rattle.zj_schedule.specs.Words.{spaced}
-use Rattle.zj_schedule.proofs.answer.put_names.Given as goal
-
-abbrev pub invariant-loop-name : goal.invariant-loop-name
-invariant-loop-name l = l.out ≡ l.fn.out ++ flat_map spaced (take l.name-index l.names)

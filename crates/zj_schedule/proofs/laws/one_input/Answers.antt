@@ -1,5 +1,0 @@
-use Rattle.zj_schedule.proofs.Unique.{one_input}
-use Rattle.zj_schedule.proofs.laws.one_input.Goals as goal
-
-pub returns : goal.returns
-returns c = one_input c.one_line.ensures

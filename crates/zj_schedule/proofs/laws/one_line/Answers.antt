@@ -1,5 +1,0 @@
-use Rattle.zj_schedule.proofs.Unique.{one_line}
-use Rattle.zj_schedule.proofs.laws.one_line.Goals as goal
-
-pub returns : goal.returns
-returns c = one_line c.one_spelling.ensures
