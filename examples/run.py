@@ -4,7 +4,7 @@
     examples/run.py PROGRAM
 
 `make` makes an image, and its bytes are compared. A script `examples/NAME.script` is played on such an image, and its
-answers have to be those of `examples/NAME.answers`. Then `check` and `play` read images that are whole, cut, overwritten,
+answers have to be those of `examples/NAME.answers`; scripts that are refused tell the place. Then `check` and `play` read images that are whole, cut, overwritten,
 swapped and absent; the answer, the status and the files are compared.
 """
 import glob
@@ -66,6 +66,16 @@ PLAYED = [
      refused("notree rule 6 block 0")),
 ]
 
+# Where a script is refused: its line and a mark, and what was due.
+REFUSED = [
+    (b"0 list /\n0 mkdir a\n", "line 2 column 9 kind 3\n0 mkdir a\n        ^\ndue: a path, as / or /a/b, of at most 16 names\n"),
+    (b"0 list", "line 1 column 7 kind 3\n0 list\n      ^\ndue: a path, as / or /a/b, of at most 16 names\n"),
+    (b"4 list /", "line 1 column 1 kind 1\n4 list /\n^\ndue: a core below the image's count of cores, or in a schedule checkpoint\n"),
+    (b"0 commit\n", "line 1 column 3 kind 2\n0 commit\n  ^\ndue: a call or an act that can stand here, or the end of the line\n"),
+    (b"# \xff\n0 list /\xff\n", "line 2 column 8 kind 3\n0 list /?\n       ^\ndue: a path, as / or /a/b, of at most 16 names\n"),
+    (b"0 list " + b"/aaaa" * 14 + b"/ 1", "line 1 column 8 kind 3\n0 list " + "/aaaa" * 4 + "\n       ^\ndue: a path, as / or /a/b, of at most 16 names\n"),
+]
+
 
 def compare(what, answer, want):
     """1 where an answer differs, which is told, and else 0."""
@@ -123,16 +133,24 @@ def read(program, command, what, files, want):
         return failed + compare(f"{command}, {what}, the files", contents(folder) == files, True)
 
 
+def refuse(program, lines, place):
+    """Plays a script that is refused."""
+    with tempfile.TemporaryDirectory() as folder:
+        run(program, folder, *MAKE)
+        return compare(lines, run(program, folder, "play", lines=lines), (2, "", "zj: script " + place))
+
+
 def main(program):
     program = os.path.realpath(program)
     scripts = sorted(glob.glob(os.path.join(HERE, "*.script")))
     failed = make(program) + sum(play(program, script) for script in scripts)
     for command, images in (("check", CHECKED), ("play", PLAYED)):
         failed += sum(read(program, command, *image) for image in images)
+    failed += sum(refuse(program, *script) for script in REFUSED)
     with tempfile.TemporaryDirectory() as folder:
         os.symlink("home", os.path.join(folder, "home"))
         failed += compare("a home that can't be opened", run(program, folder, "check"), (4, "", "zj: device home\n"))
-    print(f"{len(scripts)} scripts played, {len(CHECKED) + 1} images checked and {len(PLAYED)} played, {failed} answers differ")
+    print(f"{len(scripts)} scripts played and {len(REFUSED)} refused, {len(CHECKED) + 1} images checked and {len(PLAYED)} played, {failed} answers differ")
     return failed != 0
 
 

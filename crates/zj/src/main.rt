@@ -1,11 +1,15 @@
 //! The program `zj`: the top call over the current folder and the real standard streams.
 #![tactic(auto)]
 
+mod place;
+mod recorded;
 mod usage;
 
+use place::tell_place;
+use recorded::Recorded;
 use std::process::ExitCode;
 use std::{env, io};
-use zj_cli::{Status, zj_tool};
+use zj_cli::{Fault, Status, zj_tool};
 use zj_dev::{FolderShelf, InSource, OutSink};
 
 fn main(rt: HostRuntime) -> io::Result<ExitCode> {
@@ -16,7 +20,7 @@ fn main(rt: HostRuntime) -> io::Result<ExitCode> {
         return Ok(ExitCode::SUCCESS);
     }
     let mut shelf = FolderShelf::new(&rt);
-    let mut input = InSource::new(rt.reader());
+    let mut input = Recorded::new(rt.alloc(), InSource::new(rt.reader()));
     let mut out = OutSink::new(io::writer(&rt));
     let status = zj_tool(
         rt.alloc(),
@@ -25,13 +29,21 @@ fn main(rt: HostRuntime) -> io::Result<ExitCode> {
         &mut input,
         &mut out,
     );
-    tell_fault(&rt, &status);
+    // A fault that can't be told changes nothing of the status.
+    let _ = tell_fault(&rt, &status, input.given());
     Ok(ExitCode::from(status.code()))
 }
 
-/// Tells a fault on standard error. One that can't be told changes nothing of the status.
-fn tell_fault(rt: &HostRuntime, status: &Status) {
-    if let Some(fault) = status.fault() {
-        let _ = eprintln!(rt; "zj: {fault}");
+/// Tells a fault on standard error; of a script also the place, where the input is known.
+fn tell_fault(rt: &HostRuntime, status: &Status, input: Option<&[u8]>) -> io::Result<()> {
+    let Some(fault) = status.fault() else {
+        return Ok(());
+    };
+    eprintln!(rt; "zj: {fault}")?;
+    match (fault, input) {
+        (Fault::Script { kind, line, column }, Some(text)) => {
+            tell_place(rt, text, *kind, *line, *column)
+        }
+        _ => Ok(()),
     }
 }

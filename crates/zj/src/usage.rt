@@ -24,7 +24,8 @@ make alone is make 4096 1024 4 1048576. A file that is there already is not touc
 and ends it with status 3: image exists, and which.
 
 play
-A script has one call a line, each with the core that makes it, here core 0:
+A script has one call a line, each with the core that makes it, here core 0. A line
+without a byte, or one that begins with #, counts and says nothing:
   0 mkdir PATH        makes an empty directory
   0 create PATH       makes an empty file
   0 unlink PATH       removes a file
@@ -42,7 +43,13 @@ A path is / or names behind slashes, as /mail/new: at most 16 names, each of 1 t
 26 of the letters a to z and A to Z, digits, and . _ - (but not . or .. alone).
 A TEXT is the bytes from ! to ~ other than %, and % with two digits of base 16 in
 lower case for each other byte, as a%20b.
-A script has at most 65,536 lines and 16,777,216 bytes.
+A script has at most 65,536 lines of at most 20,000 bytes, and 16,777,216 bytes. The
+language has these acts besides, which are not built yet and refused: fsync PATH,
+begin and a call, take, look, stop, drop, commit, sync, and checkpoint alone.
+
+Where a line is refused no call runs, and standard error tells the place, as
+  zj: script line 2 column 3 kind 2
+and then the line, a mark under the column, and what was due there.
 
 play starts from the tree that home holds, and prints one line for each call:
 LINE CORE TICKET REPLY. It writes no file: what the calls did is gone when it ends.
@@ -63,7 +70,7 @@ would keep, as
 An image of more cores than one is refused as not built yet, with status 3.
 
 Status: 0 done; and with a text on standard error: 1 the words are no command,
-2 the input is no script, 3 a device of the image is absent, exists already or
+2 the input is refused, 3 a device of the image is absent, exists already or
 holds something else, 4 a device failed, 5 out of memory, 6 reading standard input
 failed, 7 writing failed.
 ";

@@ -1,3 +1,4 @@
+pub mod AskedLemmas
 pub mod StreamLemmas
 pub mod WordLemmas
 pub mod Ends

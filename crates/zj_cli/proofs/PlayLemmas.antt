@@ -9,26 +9,28 @@ use Rattle.zj_tree.specs.Apply.{Limits}
 use Rattle.zj_tree.specs.Tree.{FileTree}
 use Rattle.zj_script.specs.declared.line.Line.{Line}
 use Rattle.zj_script.specs.Answers.{answer_text}
-use Rattle.zj_script.specs.Script.{IsScript}
+use Rattle.zj_script.specs.Script.{IsSchedule}
 use Rattle.zj_cli.specs.declared.status.Fault.{Fault}
 use Rattle.zj_cli.specs.declared.status.Fault.TheVariants as faults
+use Rattle.zj_cli.specs.Asked.{AreBuilt}
 use Rattle.zj_cli.specs.Outside.{Outside}
 use Rattle.zj_dev.specs.Shelf.{ShelfView}
 use Rattle.zj_cli.specs.Check.{IsDeviceCause}
 use Rattle.zj_cli.specs.Mount.{IsTreeCause}
-use Rattle.zj_cli.specs.Play.{IsUnread, PlayEnds, Plays, PlaysFrom, ReadsInput, ScriptEnds, StopsEarly, answers_from}
+use Rattle.zj_cli.specs.Play.{IsUnread, PlayEnds, Plays, PlaysFrom, ReadsInput, ScriptEnds, StopsEarly, answers_from, calls_of}
 use Rattle.zj_cli.proofs.Ends.{FailsToClose}
 
 module _ (cores : ℕ) (limits : Limits) (tree : FileTree) (before after : Outside) (read : List ℕ) (lines : List Line) (answers : List ℕ)
-    (input : ReadsInput before.left after.left read) (is_script : IsScript cores read lines) (text : answers ≡ flat_map answer_text (answers_from limits tree 0 lines)) where
+    (input : ReadsInput before.left after.left read) (is_schedule : IsSchedule cores read lines) (built : AreBuilt lines) (text : answers ≡ flat_map answer_text (answers_from limits tree 0 (calls_of lines))) where
   plays : (written rest : List ℕ) → written ++ rest ≡ answers → Took before.held after.held written → Plays cores limits tree before after rest
   plays written rest all took = record {
     read = read;
     lines = lines;
-    answers = answers_from limits tree 0 lines;
+    answers = answers_from limits tree 0 (calls_of lines);
     written = written;
     input = input;
-    is_script = is_script;
+    is_schedule = is_schedule;
+    built = built;
     answers_fit = refl;
     text = all ∙ text;
     took = took;

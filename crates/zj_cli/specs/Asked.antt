@@ -1,5 +1,5 @@
 -- What the lines of a schedule ask for: which acts are built, and where an input is refused.
-use Rattle.std.specs.Prelude.{◌≡◌, ⊥, ℕ, ◌+◌, Bool, true, false, List, ◌∷◌, ◌++◌, ◌⊎◌, length, All, IsTrue, Option, Some, None, nat_lt, if◌then◌else◌}
+use Rattle.std.specs.Prelude.{◌≡◌, ℕ, ◌+◌, Bool, true, false, List, ◌∷◌, ◌++◌, ◌⊎◌, length, All, IsTrue, Option, Some, None, nat_lt, if◌then◌else◌}
 use Rattle.zj_tree.specs.declared.call.Call.TheVariants as calls
 use Rattle.zj_script.specs.declared.fault.ScriptFault.{ScriptFault}
 use Rattle.zj_script.specs.declared.fault.ScriptFault.TheVariants as refusals

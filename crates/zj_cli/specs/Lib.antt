@@ -2,6 +2,7 @@ pub mod Outside
 pub mod Tool
 pub mod Play
 pub mod Set
+pub mod Asked
 pub mod Check
 pub mod Opening
 pub mod Scanning

@@ -57,7 +57,7 @@ fn act_column(core: Option<u32>) -> u32
 {
     match core {
         None => 1,
-        Some(0..=9) => 3,
+        Some(core) if core < 10 => 3,
         Some(_) => 4,
     }
 }

@@ -10,12 +10,6 @@ use std::alloc::{AllocError, Global};
 use std::test::Fail;
 use zj_dev::{Device, MemShelf, MemSink, MemSource};
 
-const NO_SCRIPT: Fault = Fault::Script {
-    kind: 0,
-    line: 0,
-    column: 0,
-};
-
 fn words_of(alloc: Global, texts: &[&str]) -> Result<Vec<String>, AllocError> {
     let mut words = Vec::new(alloc);
     for text in texts {
@@ -75,7 +69,15 @@ fn refuses_other_words(rt: HostRuntime) -> Result<(), Fail> {
 fn spells_faults(rt: HostRuntime) -> Result<(), Fail> {
     let table = [
         (Fault::Words, 1, "words"),
-        (NO_SCRIPT, 2, "script line 0 column 0 kind 0"),
+        (
+            Fault::Script {
+                kind: 4,
+                line: 2,
+                column: 9,
+            },
+            2,
+            "script line 2 column 9 kind 4",
+        ),
         (
             Fault::Image(ImageFault::Absent {
                 device: Device::Home,

@@ -1,6 +1,6 @@
-//! `play`: scripts and their answers, limits, and faults of the streams.
+//! `play`: scripts and their answers, where one is refused, and faults of the streams.
 
-use super::{NO_SCRIPT, call, outcome, words_of};
+use super::{call, outcome, words_of};
 use crate::{Fault, zj_tool};
 use std::test::Fail;
 use zj_dev::{MemShelf, MemSink, MemSource};
@@ -8,7 +8,7 @@ use zj_dev::{MemShelf, MemSink, MemSource};
 #[test]
 fn plays_scripts(rt: HostRuntime) -> Result<(), Fail> {
     let table: [(&str, &str); 8] = [
-        ("", ""),
+        ("\n# nothing\n", ""),
         ("0 mkdir /a\n0 list /\n", "1 0 0 ok\n2 0 1 names a\n"),
         ("0 mkdir /a\n0 list /", "1 0 0 ok\n2 0 1 names a\n"),
         ("0 list /\n", "1 0 0 names\n"),
@@ -33,63 +33,26 @@ fn plays_scripts(rt: HostRuntime) -> Result<(), Fail> {
 }
 
 #[test]
-fn refuses_what_is_no_script(rt: HostRuntime) -> Result<(), Fail> {
+fn tells_where_a_script_is_refused(rt: HostRuntime) -> Result<(), Fail> {
     let alloc = rt.alloc();
-    let long = b"0".repeat(alloc, 20_001)?;
-    let table: [&[u8]; 12] = [
-        b"0 mkdir a\n",
-        b"1 list /\n",
-        b"0 list\n",
-        b"0 list / /\n",
-        b"\n",
-        b"0 list /\n\n",
-        b"00 list /\n",
-        b"0 list /\r\n",
-        b"0 mkdir /abcdefghijklmnopqrstuvwxyza\n",
-        b"0 mkdir /a/b/c/d/e/f/g/h/i/j/k/l/m/n/o/p/q\n",
-        &[0xFF, 0xFE],
-        &long,
+    let table: [(&str, u32, u32, u32); 10] = [
+        ("0 mkdir a\n", 3, 1, 9),
+        ("1 list /\n", 1, 1, 1),
+        ("\n# a comment\n0 list", 3, 3, 7),
+        ("0 list / /\n", 2, 1, 10),
+        ("0 read /f 01 1\n", 4, 1, 11),
+        ("0 write /f 0 %61\n", 5, 1, 14),
+        ("0 commit\n0 list\n", 2, 1, 3),
+        ("0 list\n0 commit\n", 3, 1, 7),
+        ("0 commit now\n", 2, 1, 10),
+        ("0 list /\ncheckpoint\n", 2, 2, 1),
     ];
-    for input in table {
-        let (status, written) = outcome(alloc, &["play"], input)?;
-        assert_eq!(rt; status.code(), 2, "at {input:?}");
-        assert_eq!(rt; status.fault().copied(), Some(NO_SCRIPT), "at {input:?}");
-        assert_eq!(rt; written.len(), 0, "at {input:?}");
+    for (input, kind, line, column) in table {
+        let (status, written) = outcome(alloc, &["play"], input.as_bytes())?;
+        let want = Fault::Script { kind, line, column };
+        assert_eq!(rt; status.fault().copied(), Some(want), "at {input}");
+        assert_eq!(rt; written.len(), 0, "at {input}");
     }
-    Ok(())
-}
-
-#[test]
-fn keeps_the_limit_of_lines(rt: HostRuntime) -> Result<(), Fail> {
-    let alloc = rt.alloc();
-    let mut many = b"0 list /\n".repeat(alloc, 65_536)?;
-    let (status, written) = outcome(alloc, &["play"], &many)?;
-    assert_eq!(rt; status.code(), 0);
-    assert!(rt; written.ends_with(b"\n65536 0 65535 names\n"));
-    many.extend_from_slice(b"0 list /\n")?;
-    let (status, written) = outcome(alloc, &["play"], &many)?;
-    assert_eq!(rt; status.fault().copied(), Some(NO_SCRIPT));
-    assert_eq!(rt; written.len(), 0);
-    Ok(())
-}
-
-#[test]
-fn keeps_the_limit_of_bytes(rt: HostRuntime) -> Result<(), Fail> {
-    let alloc = rt.alloc();
-    // 16 names of 26 letters make lines of 440 bytes; 38,130 of them have 16,777,200 bytes
-    let mut line = Vec::from_slice(alloc, b"0 list ")?;
-    line.extend_from_slice(&b"/abcdefghijklmnopqrstuvwxyz".repeat(alloc, 16)?)?;
-    line.push(b'\n')?;
-    let mut large = line.repeat(alloc, 38_130)?;
-    large.extend_from_slice(b"0 list /aaaaaaa\n")?;
-    let (status, written) = outcome(alloc, &["play"], &large)?;
-    assert_eq!(rt; status.code(), 0);
-    assert!(rt; written.ends_with(b"\n38131 0 38130 notfound\n"));
-    large.truncate(16_777_200);
-    large.extend_from_slice(b"0 list /aaaaaaaa\n")?;
-    let (status, written) = outcome(alloc, &["play"], &large)?;
-    assert_eq!(rt; status.fault().copied(), Some(NO_SCRIPT));
-    assert_eq!(rt; written.len(), 0);
     Ok(())
 }
 
