@@ -17,7 +17,7 @@ use crate::entries::{check_entries, check_names};
 use crate::faults::TreeFault;
 use crate::fields::Kind;
 use crate::image::{node_of, numbers};
-use crate::links::{Found, check_links, node_at};
+use crate::links::{Found, check_links};
 use crate::rules::{check_map, check_nodes, named_blocks};
 use std::alloc::{AllocError, Global};
 use zj_block::{BLOCK_LEN, Blocks, Sizes};
@@ -37,7 +37,7 @@ pub fn read_tree(alloc: Global, sizes: &Sizes, blocks: &Blocks) -> Result<Tree, 
     check_names(alloc, sizes, blocks)?;
     let found = check_links(alloc, sizes, blocks)?;
     check_map(sizes, blocks, &named)?;
-    Ok(tree_of(alloc, sizes, blocks, &found)?)
+    Ok(tree_of(alloc, sizes, blocks, found)?)
 }
 
 // The tree of the nodes that were found.
@@ -45,12 +45,12 @@ fn tree_of(
     alloc: Global,
     sizes: &Sizes,
     blocks: &Blocks,
-    found: &[Found],
+    found: Vec<Found>,
 ) -> Result<Tree, AllocError>
     requires nodes { HasNodes sizes.now blocks.now }
     requires sound { IsSound sizes.now (image_of sizes.now blocks.now) }
-    requires found { AreFound sizes.now.nodes (graph_of (image_of sizes.now blocks.now)) found.now }
-    requires all { FindsAll (graph_of (image_of sizes.now blocks.now)) found.now }
+    requires found { AreFound sizes.now.nodes (graph_of (image_of sizes.now blocks.now)) found.items }
+    requires all { FindsAll (graph_of (image_of sizes.now blocks.now)) found.items }
     ensures shows { IfOk result (λ tree. Shows sizes.now blocks.now tree.tree) }
     ensures limits { IfOk result (λ tree. tree.limits ≡ limits_of sizes.now) }
 {
@@ -65,20 +65,19 @@ fn entries_of(
     alloc: Global,
     sizes: &Sizes,
     blocks: &Blocks,
-    found: &[Found],
+    found: Vec<Found>,
 ) -> Result<Vec<(Path, Content)>, AllocError>
     requires nodes { HasNodes sizes.now blocks.now }
     requires sound { IsSound sizes.now (image_of sizes.now blocks.now) }
-    requires found { AreFound sizes.now.nodes (graph_of (image_of sizes.now blocks.now)) found.now }
-    requires all { FindsAll (graph_of (image_of sizes.now blocks.now)) found.now }
-    ensures { IfOk result (λ entries. entries.items ≡ map (shown_entry (graph_of (image_of sizes.now blocks.now))) found.now) }
+    requires found { AreFound sizes.now.nodes (graph_of (image_of sizes.now blocks.now)) found.items }
+    requires all { FindsAll (graph_of (image_of sizes.now blocks.now)) found.items }
+    ensures { IfOk result (λ entries. entries.items ≡ map (shown_entry (graph_of (image_of sizes.now blocks.now))) found.items) }
 {
     let _nodes = sizes.nodes();
     let mut entries = Vec::new(alloc);
-    for k in 0..found.len() {
-        let content = content_of(alloc, sizes, blocks, node_at(found, k))?;
-        let path = found[k].path.copy(alloc)?;
-        entries.push((path, content))?;
+    for one in found {
+        let content = content_of(alloc, sizes, blocks, one.node)?;
+        entries.push((one.path, content))?;
     }
     Ok(entries)
 }
