@@ -5,28 +5,43 @@
 
 PROGRAM is the built read_bench.
 """
+import fcntl
 import os
 import subprocess
 import sys
+import time
+
+from measure import peak_memory
 
 
-def read(program, shape, blocks, nodes):
-    """The least time of some readings in microseconds, and the greatest memory of the program in KiB."""
-    words = [program, str(blocks), str(nodes), shape]
-    running = subprocess.Popen(words, stdout=subprocess.PIPE, stderr=subprocess.PIPE)
-    told, took = running.stdout.read(), running.stderr.read()
-    _, status, usage = os.wait4(running.pid, 0)
-    assert status == 0 and told.endswith(b" blocks\n"), told
-    return int(took.split()[1]), usage.ru_maxrss
+def least_time(words):
+    """The least time of some readings, in microseconds."""
+    return min(
+        int(subprocess.run(words, capture_output=True, check=True).stderr.split()[1])
+        for _ in range(5)
+    )
+
+
+def memory(words):
+    """The greatest memory up to the first reading, in KiB. What it says of the tree waits at a pipe that is full."""
+    reader, writer = os.pipe()
+    os.write(writer, b"\0" * fcntl.fcntl(writer, fcntl.F_GETPIPE_SZ))
+    waiting = subprocess.Popen(words, stdout=writer)
+    time.sleep(1)
+    peak = peak_memory(waiting)
+    waiting.kill()
+    waiting.wait()
+    os.close(reader)
+    os.close(writer)
+    return peak
 
 
 def main(program):
     program = os.path.realpath(program)
     for shape in ("flat", "nested", "deep"):
         for blocks, nodes in ((1024, 256), (2048, 512), (4096, 1024)):
-            taken = [read(program, shape, blocks, nodes) for _ in range(5)]
-            least, memory = min(time for time, _ in taken), max(most for _, most in taken)
-            print(f"{shape}, {blocks} blocks, {nodes} nodes: {least} us, {memory} KiB at most")
+            words = [program, str(blocks), str(nodes), shape]
+            print(f"{shape}, {blocks} blocks, {nodes} nodes: {least_time(words)} us, {memory(words)} KiB at most")
 
 
 if __name__ == "__main__":
