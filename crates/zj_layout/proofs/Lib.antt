@@ -18,3 +18,4 @@ pub mod Ruled
 pub mod Sound
 pub mod Spelled
 pub mod Total
+pub mod Gathered

@@ -1,6 +1,5 @@
 -- The tree of the nodes that were found, one after another.
 use Rattle.std.proofs.Common.{◌≡◌, ◌≢◌, ◌⊎◌, inl, inr, ℕ, zero, suc, ◌+◌, ◌-◌, ◌<◌, ◌≤◌, Bool, true, false, cond, List, [], length, take, Option, Some, None, IsSome, IsTrue, refl, sym, ap, ◌∙◌, subst, arith, sum_by}
-use Rattle.std.specs.List.{All}
 use Rattle.std.specs.Option.{option_and_then, unwrap_or}
 use Rattle.std.specs.Ordering.{eq_by_cmp}
 use Rattle.std.specs.FinMap as map_of
@@ -20,14 +19,9 @@ use Rattle.zj_layout.specs.Linked.{found_at, AreFound, FindsAll}
 use Rattle.zj_layout.proofs.Follow.{Path', some_is, none_some, follow_more, one_path}
 use Rattle.zj_layout.proofs.Live.{paths_total, tie, no_tie, led_live}
 use Rattle.zj_layout.proofs.Counted.{length_sum, parent_more}
-use Rattle.zj_layout.proofs.Found.{found_few}
 use Rattle.zj_layout.proofs.Room.{used_and_free}
-use Rattle.zj_block.specs.Block.{IsContent}
-use Rattle.zj_tree.specs.Apply.{Limits, Fits}
-use Rattle.zj_tree.specs.StoredTree.{LimitedTree}
 use Rattle.zj_layout.specs.Image.{State, Image, image_of, graph_of}
 use Rattle.zj_layout.specs.Rules.{IsSound}
-use Rattle.zj_layout.specs.Shows.{Shows, limits_of}
 use Rattle.zj_layout.proofs.Fresh.{past_node}
 use Rattle.zj_layout.proofs.Spelled.{path_named}
 use Rattle.zj_layout.proofs.Sound.{stored, rooted}
@@ -225,19 +219,19 @@ module _ (nodes : ℕ) (g : Graph) (r : IsRooted nodes g) (spelled : (q : Path')
           let same : q ≡ path k.0 = one_path nodes g r q (path k.0) i e (a.leads k.0 k.1 ∙ ap (λ (x : ℕ). Some x) k.2) in
           ap (content_at (planted g found last)) same ∙ there last k.0 (omega arith) (omega (arith, k.1)) ∙ sym (shows_node k.0 k.1) ∙ ap (λ x. content_of (g x)) k.2 ∙ sym (ap (option_and_then (λ x. content_of (g x))) e)
 
--- ---- the next node fits
+-- ---- all of them are what blocks show
 
 module _ (sizes : Numbers) (im : Image) (st : IsStored sizes im) (r : IsRooted sizes.nodes (graph_of im)) (limits : IsInLimits sizes) (found : List Found) (a : AreFound sizes.nodes (graph_of im) found) (all : FindsAll (graph_of im) found) where
   abbrev g : Graph
   g = graph_of im
 
-  spelled : (q : Path') (i : ℕ) → follow (graph_of im) 0 q ≡ Some i → IsTrue (has_names q)
+  pub spelled : (q : Path') (i : ℕ) → follow (graph_of im) 0 q ≡ Some i → IsTrue (has_names q)
   spelled q i h = path_named sizes im st q 0 i h
 
   pub describes_last : (last : ℕ) → last + 1 ≡ length found → Describes g (planted g found last)
   describes_last last is = describes_all sizes.nodes g r spelled found a all last is
 
-  used_room : (k : ℕ) → k < length found → used (planted g found k) ≤ room sizes
+  pub used_room : (k : ℕ) → k < length found → used (planted g found k) ≤ room sizes
   used_room k lt =
       let last = length found - 1 in
       let is : last + 1 ≡ length found = omega arith in
@@ -245,21 +239,6 @@ module _ (sizes : Numbers) (im : Image) (st : IsStored sizes im) (r : IsRooted s
       let whole = used_and_free sizes im st (planted g found last) r (describes_last last is) (omega (arith, limits.some_data)) in
       let most = used_most sizes.nodes g r spelled found a k (last - k) (omega arith) in
       omega (arith, whole, most, ap (λ i. used (planted g found i)) e)
-
-  pub planted_is : (k : ℕ) (c : Content) → 1 ≤ k → content_of (g (found_at found k).node) ≡ Some c → planted g found k ≡ map_of.insert (planted g found (k - 1)) (found_at found k).path c
-  planted_is k c some is =
-      let e : k - 1 + 1 ≡ k = omega arith in
-      ap (planted g found) (sym e) ∙ planted_more g found (k - 1) ∙ (λ i. map_of.insert (planted g found (k - 1)) (found_at found (e i)).path (shown_by g (found_at found (e i)).node)) ∙ ap (λ o. map_of.insert (planted g found (k - 1)) (found_at found k).path (unwrap_or o contents.Dir)) is
-
-  pub fits : (k : ℕ) (c : Content) → 1 ≤ k → k < length found → content_of (g (found_at found k).node) ≡ Some c → Fits (limits_of sizes) (planted g found (k - 1)) (found_at found k).path c
-  fits k c some lt is =
-      let e : k - 1 + 1 ≡ k = omega arith in
-      record {
-        absent = subst (λ i. content_at (planted g found (k - 1)) (found_at found i).path ≡ None) e (next_absent sizes.nodes g r spelled found a (k - 1) (omega arith));
-        directory = subst (λ i. content_at (planted g found (k - 1)) (parent (found_at found i).path) ≡ Some contents.Dir) e (next_parent sizes.nodes g r spelled found a (k - 1) (omega arith));
-        nodes = omega (arith, counted sizes.nodes g r spelled found a (k - 1) (omega arith), found_few sizes.nodes g found a);
-        room = subst (λ t. used t ≤ room sizes) (planted_is k c some is) (used_room k lt);
-      }
 
 -- ---- the same of blocks
 
@@ -270,31 +249,11 @@ module _ (sizes : Numbers) (s : State) (limits : IsInLimits sizes) (sound : IsSo
   past : (n : ℕ) → sizes.nodes ≤ n → im.node n ≡ None
   past n le = past_node sizes s n le
 
-  st : IsStored sizes im
+  pub st : IsStored sizes im
   st = stored sizes im past sound.laid_out
 
-  rt : IsRooted sizes.nodes (graph_of im)
+  pub rt : IsRooted sizes.nodes (graph_of im)
   rt = rooted sizes im past (omega (arith, limits.least_nodes)) sound
 
   pub found_live : (k : ℕ) (n : ℕ) → k < length found → n ≡ (found_at found k).node → IsLive (graph_of im n)
   found_live k n lt is = subst (λ x. IsLive (graph_of im x)) (sym is) (led_live sizes.nodes (graph_of im) rt (found_at found k).path (found_at found k).node (a.leads k lt))
-
-  pub next_fits : (k n : ℕ) (f : Found) (c : Content) (t : LimitedTree) → 1 ≤ k → k < length found → f ≡ found_at found k → n ≡ (found_at found k).node → content_of (graph_of im n) ≡ Some c → t.tree ≡ planted (graph_of im) found (k - 1) → t.limits ≡ limits_of sizes → Fits t.limits t.tree f.path c
-  next_fits k n f c t some lt f_is n_is is tree_is limits_are =
-      let x : Fits (limits_of sizes) (planted (graph_of im) found (k - 1)) (found_at found k).path c = fits sizes im st rt limits found a all k c some lt (ap (λ j. content_of (graph_of im j)) (sym n_is) ∙ is) in
-      let y : Fits (limits_of sizes) t.tree f.path c = subst (λ u. Fits (limits_of sizes) u f.path c) (sym tree_is) (subst (λ (h : Found). Fits (limits_of sizes) (planted (graph_of im) found (k - 1)) h.path c) (sym f_is) x) in
-      subst (λ (l : Limits). Fits l t.tree f.path c) (sym limits_are) y
-
-  pub next_planted : (k n : ℕ) (f : Found) (c : Content) (t new : FileTree) → 1 ≤ k → k < length found → f ≡ found_at found k → n ≡ (found_at found k).node → content_of (graph_of im n) ≡ Some c → t ≡ planted (graph_of im) found (k - 1) → new ≡ map_of.insert t f.path c → new ≡ planted (graph_of im) found (k + 1 - 1)
-  next_planted k n f c t new some lt f_is n_is is tree_is new_is =
-      let e : k + 1 - 1 ≡ k = omega arith in
-      new_is ∙ (λ i. map_of.insert (tree_is i) (f_is i).path c)
-      ∙ sym (planted_is sizes im st rt limits found a all k c some (ap (λ j. content_of (graph_of im j)) (sym n_is) ∙ is))
-      ∙ ap (planted (graph_of im) found) (sym e)
-
-  pub shows_all : (t : FileTree) (k : ℕ) → length found ≤ k → 1 ≤ k → k - 1 < length found → t ≡ planted (graph_of im) found (k - 1) → length s ≡ sizes.blocks → All IsContent s → Shows sizes s t
-  shows_all t k le some lt is many contents = record {
-    shape = record { limits = limits; many = many; contents = contents };
-    sound = sound;
-    describes = subst (λ u. Describes (graph_of im) u) (sym is) (describes_last sizes im st rt limits found a all (k - 1) (omega arith));
-  }

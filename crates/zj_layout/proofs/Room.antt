@@ -109,11 +109,15 @@ module _ (sizes : Numbers) (image : Image) (s : IsStored sizes image) where
   all_ones zero = refl
   all_ones (suc n) = omega (arith, all_ones n)
 
+  -- a tree takes up as many blocks as the nodes name
+  pub used_named : (t : FileTree) → IsRooted sizes.nodes (graph_of image) → Describes (graph_of image) t → used t ≡ total (count_of image) sizes.nodes
+  used_named t r d =
+      used_counted sizes.nodes (graph_of image) t r d
+      ∙ total_agree (λ i. blocks_held (graph_of image i)) (count_of image) sizes.nodes (λ i lt. held_blocks (node_of image i).kind (node_of image i).size (byte_at_place image i) (link_or_none image i) (s.placed i lt).few)
+
   pub used_and_free : (t : FileTree) → IsRooted sizes.nodes (graph_of image) → Describes (graph_of image) t → first_data sizes ≤ sizes.blocks → used t + free_blocks ≡ room sizes
   used_and_free t r d some =
-      let blocks : used t ≡ total (count_of image) sizes.nodes =
-      used_counted sizes.nodes (graph_of image) t r d
-      ∙ total_agree (λ i. blocks_held (graph_of image i)) (count_of image) sizes.nodes (λ i lt. held_blocks (node_of image i).kind (node_of image i).size (byte_at_place image i) (link_or_none image i) (s.placed i lt).few) in
+      let blocks : used t ≡ total (count_of image) sizes.nodes = used_named t r d in
       let named : total (λ b. one_if (is_named sizes.nodes image b)) sizes.blocks ≡ total (count_of image) sizes.nodes =
       total_agree (λ b. one_if (is_named sizes.nodes image b)) (λ b. one_if (up sizes.nodes b)) sizes.blocks (λ b l. ap one_if (up_is b)) ∙ all_nodes sizes.nodes (omega arith) in
       let whole =

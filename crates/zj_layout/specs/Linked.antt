@@ -2,7 +2,10 @@
 use Rattle.std.specs.Prelude.{◌≡◌, ◌≢◌, ℕ, ◌<◌, Bool, true, false, List, [], ◌∷◌, ◌++◌, length, Some, slice_set, slice_index_or}
 use Rattle.zj_layout.specs.declared.fields.Link.{Link}
 use Rattle.zj_layout.specs.declared.links.Found.{Found}
-use Rattle.zj_layout.specs.Graph.{Graph, follow, link_at}
+use Rattle.std.specs.Option.{unwrap_or}
+use Rattle.zj_tree.specs.declared.content.Content.{Content}
+use Rattle.zj_tree.specs.declared.content.Content.TheVariants.{Dir}
+use Rattle.zj_layout.specs.Graph.{Graph, content_of, follow, link_at}
 use Rattle.zj_layout.specs.Image.{Image, graph_of}
 use Rattle.zj_layout.specs.Rules.{HasOneEntry}
 use Rattle.zj_layout.specs.Read.{mark}
@@ -32,6 +35,10 @@ no_found = record { node = 0; path = [] }
 
 abbrev pub found_at : List Found → ℕ → Found
 found_at found k = slice_index_or found k no_found
+
+-- what stands at the path of a node that was found
+abbrev pub shown_entry : Graph → Found → List (List ℕ) × Content
+shown_entry graph found = (found.path, unwrap_or (content_of (graph found.node)) Dir)
 
 -- a node that was found from an earlier one, by one step more
 pub record ComesFrom (graph : Graph) (found : List Found) (k : ℕ) : Type 0 where

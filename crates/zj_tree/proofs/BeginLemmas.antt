@@ -1,10 +1,10 @@
 -- Paths that begin with others, and where they are once these have moved.
-use Rattle.std.proofs.Common.{◌≡◌, ◌≢◌, ◌⊎◌, inl, inr, ℕ, zero, suc, ◌+◌, ◌-◌, ◌<◌, ◌≤◌, Bool, true, false, cond, T, List, [], ◌∷◌, ◌++◌, length, take, drop, refl, sym, ap, ◌∙◌, subst, arith, append_assoc}
+use Rattle.std.proofs.Common.{◌≡◌, ◌≢◌, ℕ, ◌+◌, ◌-◌, ◌<◌, ◌≤◌, Bool, true, false, cond, [], ◌∷◌, ◌++◌, length, take, drop, refl, sym, ap, ◌∙◌, subst, arith, append_assoc}
 use Rattle.std.specs.Ordering.{is_eq, eq_by_cmp}
 use Rattle.std.proofs.lemmas.Cmp.{tied_itself}
-use Rattle.std.proofs.lemmas.List.{take-append-drop, take-take, length-take, length-append, append_cancel_left, append-nil}
+use Rattle.std.proofs.lemmas.List.{take-append-drop, length-append, append_cancel_left, append-nil}
 use Rattle.std.proofs.Math.Seq.{drop-append_seam, take-append_seam, take-append-add}
-use Rattle.zj_tree.specs.Path.{parent, same_path, begins_with}
+use Rattle.zj_tree.specs.Path.{parent, begins_with}
 use Rattle.zj_tree.specs.Tree.{path_cmp, is_in}
 use Rattle.zj_tree.specs.Changed.{moved}
 use Rattle.zj_tree.proofs.OrderLemmas.{paths_total}

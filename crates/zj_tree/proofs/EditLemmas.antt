@@ -1,16 +1,14 @@
 -- Entries in order once one is put in place of another, or taken out; and the trees of these entries.
-use Rattle.std.proofs.Common.{◌≡◌, ◌≢◌, ◌⊎◌, inl, inr, ℕ, zero, suc, ◌+◌, ◌-◌, ◌<◌, ◌≤◌, Bool, true, false, cond, ◌&&◌, T, List, [], ◌∷◌, ◌++◌, length, get_or, set, remove, Option, Some, None, refl, sym, ap, ◌∙◌, subst, arith}
-use Rattle.std.specs.declared.cmp.Ordering.{Ordering}
+use Rattle.std.proofs.Common.{◌≡◌, ℕ, zero, suc, ◌<◌, Bool, true, false, cond, ◌&&◌, T, List, [], ◌∷◌, length, get_or, set, remove, Some, None, refl, sym, ap, ◌∙◌, arith}
 use Rattle.std.specs.declared.cmp.Ordering.TheVariants.{Less, Equal, Greater}
-use Rattle.std.specs.Ordering.{is_lt, is_eq, eq_by_cmp}
-use Rattle.std.specs.FinMap.{insert, entries, entries_sorted, find, put, is_sorted, get-insert, get-remove, get-from_sorted, same_map}
+use Rattle.std.specs.Ordering.{is_eq, eq_by_cmp}
+use Rattle.std.specs.FinMap.{insert, find, put, is_sorted, get-insert, get-remove, get-from_sorted, same_map}
 use Rattle.std.specs.FinMap as map_of
 use Rattle.std.specs.FinMap.Entries.{below_all, by_order}
 use Rattle.std.proofs.lemmas.Cmp.{tied_itself}
 use Rattle.zj_tree.specs.declared.content.Content.{Content}
 use Rattle.zj_tree.specs.Tree.{FileTree, content_at, path_cmp}
 use Rattle.zj_tree.specs.StoredTree.{tree_of}
-use Rattle.zj_tree.proofs.NameLemmas.{both_pass}
 use Rattle.zj_tree.proofs.OrderLemmas.{Entries, paths_total, paths_exact, T_first, T_second, is_less, below_less, turned}
 use Rattle.zj_tree.proofs.EntryLemmas.{Path', tie}
 

@@ -1,5 +1,5 @@
 -- The entries that are kept, and those that are kept after a change.
-use Rattle.std.proofs.Common.{◌≡◌, ◌≢◌, ℕ, ◌+◌, ◌≤◌, ◌<◌, T, List, length, get_or, insert, set, remove, Some, refl, sym, ap, ◌∙◌, subst, arith}
+use Rattle.std.proofs.Common.{◌≡◌, ℕ, ◌≤◌, ◌<◌, T, List, length, get_or, insert, set, remove, Some, refl, sym, ap, ◌∙◌, subst, arith}
 use Rattle.std.specs.FinMap.{insert as put_in, len-entries, entries, entries_sorted, is_sorted, entries-insert, same_entries_map}
 use Rattle.std.specs.FinMap as map_of
 use Rattle.zj_tree.specs.declared.content.Content.{Content}

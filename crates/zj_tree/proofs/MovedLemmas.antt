@@ -1,7 +1,7 @@
 -- The tree in which what stood at a path stands at another.
-use Rattle.std.proofs.Common.{◌≡◌, ◌≢◌, ◌⊎◌, inl, inr, ℕ, zero, suc, ◌+◌, ◌-◌, ◌<◌, ◌≤◌, Bool, true, false, cond, T, List, [], ◌∷◌, ◌++◌, map, length, get_or, take, drop, Option, Some, None, IsSome, IsTrue, refl, sym, ap, ◌∙◌, subst, arith, eq-or-lt_of_le}
+use Rattle.std.proofs.Common.{◌≡◌, ◌≢◌, ◌⊎◌, inl, inr, ℕ, suc, ◌+◌, ◌-◌, ◌<◌, ◌≤◌, Bool, true, false, cond, [], ◌∷◌, ◌++◌, map, length, get_or, take, drop, Some, None, IsSome, IsTrue, refl, sym, ap, ◌∙◌, subst, arith, eq-or-lt_of_le}
 use Rattle.std.specs.Ordering.{is_eq, eq_by_cmp}
-use Rattle.std.specs.FinMap.{entries, entries_sorted, find, is_sorted, get-remove, get-from_entries}
+use Rattle.std.specs.FinMap.{entries, entries_sorted, find, get-remove, get-from_entries}
 use Rattle.std.specs.FinMap as map_of
 use Rattle.std.specs.List.{list_all}
 use Rattle.std.proofs.lemmas.Cmp.{tied_itself}
@@ -9,10 +9,10 @@ use Rattle.std.proofs.lemmas.Bool.{cases_lt}
 use Rattle.std.proofs.lemmas.List.{take-take, length-take, length-append, take-append-le, take_all}
 use Rattle.std.proofs.Math.Seq.{take-append-add}
 use Rattle.zj_tree.specs.declared.content.Content.{Content}
-use Rattle.zj_tree.specs.declared.content.Content.TheVariants.{Dir, File}
+use Rattle.zj_tree.specs.declared.content.Content.TheVariants.{Dir}
 use Rattle.zj_tree.specs.Name.{is_name}
-use Rattle.zj_tree.specs.Path.{has_names, parent, same_path, begins_with}
-use Rattle.zj_tree.specs.Tree.{FileTree, IsTree, path_cmp, content_at, entry_count}
+use Rattle.zj_tree.specs.Path.{has_names, parent, begins_with}
+use Rattle.zj_tree.specs.Tree.{FileTree, IsTree, path_cmp, content_at}
 use Rattle.zj_tree.specs.Changed.{moved, renamed}
 use Rattle.zj_tree.specs.Moved.{CanMove}
 use Rattle.zj_tree.proofs.NameLemmas.{both_pass, first_passes, second_passes}
@@ -20,7 +20,7 @@ use Rattle.zj_tree.proofs.OrderLemmas.{Entries, paths_total, content_found, find
 use Rattle.zj_tree.proofs.EntryLemmas.{Path', tie, paths_same}
 use Rattle.zj_tree.proofs.EditLemmas.{Entry'}
 use Rattle.zj_tree.proofs.RemoveLemmas.{nothing_below}
-use Rattle.zj_tree.proofs.BeginLemmas.{begins_itself, begins_split, begins_short, begins_take, take_begins, begins_longer, not_false, no_both, below_moved, other_stays, none_left}
+use Rattle.zj_tree.proofs.BeginLemmas.{begins_itself, begins_split, begins_short, take_begins, not_false, no_both, below_moved, other_stays, none_left}
 
 -- an entry at the path where it is once `from` is called `to`
 abbrev pub moved_entry : Path' → Path' → Entry' → Entry'

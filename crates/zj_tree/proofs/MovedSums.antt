@@ -1,21 +1,21 @@
 -- How many blocks a tree takes up once what stood at a path stands at another.
-use Rattle.std.proofs.Common.{◌≡◌, ◌≢◌, ℕ, zero, suc, ◌+◌, ◌-◌, ◌<◌, ◌≤◌, Bool, true, false, cond, T, List, [], ◌∷◌, map, length, get_or, Option, Some, None, MatchOption, IsSome, is_some, ◌++◌, take, sum_by, refl, sym, ap, ◌∙◌, subst, arith}
+use Rattle.std.proofs.Common.{◌≡◌, ◌≢◌, ℕ, suc, ◌+◌, ◌-◌, ◌<◌, ◌≤◌, Bool, true, false, cond, T, [], ◌∷◌, map, length, get_or, Option, Some, None, MatchOption, IsSome, is_some, sum_by, refl, sym, ap, ◌∙◌, subst, arith}
 use Rattle.std.specs.Ordering.{is_eq, eq_by_cmp}
-use Rattle.std.specs.FinMap.{entries, entries_sorted, entries-insert, find, put, is_sorted, get-from_entries, from_entries, insert}
+use Rattle.std.specs.FinMap.{entries, entries_sorted, entries-insert, find, put, is_sorted, get-from_entries, from_entries}
 use Rattle.std.specs.FinMap as map_of
 use Rattle.std.proofs.lemmas.List.Sums.{sum_by-cons}
 use Rattle.zj_tree.specs.declared.content.Content.{Content}
 use Rattle.zj_tree.specs.declared.content.Content.TheVariants.{Dir}
 use Rattle.zj_tree.specs.Path.{parent, begins_with}
-use Rattle.zj_tree.specs.Tree.{FileTree, IsTree, path_cmp, content_at, is_in, entry_count, directory_blocks, content_blocks, used}
+use Rattle.zj_tree.specs.Tree.{FileTree, path_cmp, content_at, is_in, entry_count, directory_blocks, content_blocks, used}
 use Rattle.zj_tree.specs.Changed.{moved, renamed}
 use Rattle.zj_tree.specs.Moved.{CanMove}
 use Rattle.zj_tree.proofs.OrderLemmas.{Entries, paths_total, content_found, T_first, T_second}
 use Rattle.zj_tree.proofs.SumLemmas.{sum_put, sum_same, sum_over_keys}
 use Rattle.zj_tree.proofs.RootLemmas.{count, blocks_by, used_among}
-use Rattle.zj_tree.proofs.EntryLemmas.{Path', tie, in_parent, in_one, in_no_other, new_count, one_more}
+use Rattle.zj_tree.proofs.EntryLemmas.{Path', in_parent, in_one, in_no_other, new_count, one_more}
 use Rattle.zj_tree.proofs.EditLemmas.{Entry', none_below, reinserted, removed_nothing, gone}
-use Rattle.zj_tree.proofs.RemoveLemmas.{the_content, removed_is_tree, used_without}
+use Rattle.zj_tree.proofs.RemoveLemmas.{used_without}
 use Rattle.std.proofs.lemmas.Cmp.{tied_itself}
 use Rattle.std.proofs.lemmas.List.{append-nil, length-take}
 use Rattle.zj_tree.proofs.BeginLemmas.{not_false, no_both, tests_alike, take_begins, begins_itself, begins_take, begins_short, moved_once, moved_no, moved_itself, in_moved}

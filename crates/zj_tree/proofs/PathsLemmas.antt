@@ -1,7 +1,6 @@
 -- Entries that get new paths, one by one.
-use Rattle.std.proofs.Common.{◌≡◌, ℕ, zero, suc, ◌+◌, ◌<◌, Bool, true, false, cond, List, [], ◌∷◌, ◌++◌, map, filter, length, get_or, set, take, drop, refl, sym, ap, ◌∙◌, subst, arith, append_assoc, length-take}
+use Rattle.std.proofs.Common.{◌≡◌, ℕ, zero, suc, ◌+◌, ◌<◌, Bool, true, false, cond, List, [], ◌∷◌, ◌++◌, map, filter, length, get_or, set, take, drop, refl, sym, ap, ◌∙◌, arith, append_assoc, length-take}
 use Rattle.std.proofs.lemmas.List.{take_more, map_push, length-map}
-use Rattle.zj_tree.specs.declared.content.Content.{Content}
 use Rattle.zj_tree.specs.Path.{begins_with}
 use Rattle.zj_tree.specs.Changed.{moved}
 use Rattle.zj_tree.specs.Moved.{moved_paths}

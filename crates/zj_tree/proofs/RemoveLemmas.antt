@@ -1,19 +1,18 @@
 -- A tree without an entry, or with other bytes in a file.
-use Rattle.std.proofs.Common.{◌≡◌, ◌≢◌, ◌⊎◌, inl, inr, ℕ, zero, suc, ◌+◌, ◌-◌, ◌<◌, ◌≤◌, Bool, true, false, cond, T, List, [], ◌∷◌, map, length, get_or, take, Option, Some, None, MatchOption, IsSome, IsTrue, sum_by, refl, sym, ap, ◌∙◌, subst, arith}
-use Rattle.std.specs.Ordering.{is_eq, eq_by_cmp}
-use Rattle.std.specs.declared.cmp.Ordering.TheVariants.{Equal}
-use Rattle.std.specs.FinMap.{insert, entries, entries_sorted, entries-insert, find, put, is_sorted, get-remove, len, len-entries, len-remove}
+use Rattle.std.proofs.Common.{◌≡◌, ◌≢◌, ℕ, zero, suc, ◌+◌, ◌-◌, ◌<◌, ◌≤◌, Bool, true, false, cond, List, [], ◌∷◌, length, get_or, take, Option, Some, None, MatchOption, IsSome, sum_by, refl, sym, ap, ◌∙◌, subst, arith}
+use Rattle.std.specs.Ordering.{eq_by_cmp}
+use Rattle.std.specs.FinMap.{insert, entries, entries-insert, find, put, get-remove}
 use Rattle.std.specs.FinMap as map_of
 use Rattle.std.proofs.lemmas.List.{take-take, length-take}
 use Rattle.std.proofs.lemmas.List.Sums.{sum_by-cons}
 use Rattle.zj_tree.specs.declared.content.Content.{Content}
 use Rattle.zj_tree.specs.declared.content.Content.TheVariants.{Dir, File}
-use Rattle.zj_tree.specs.Path.{has_names, parent}
+use Rattle.zj_tree.specs.Path.{parent}
 use Rattle.zj_tree.specs.Tree.{path_cmp, FileTree, IsTree, content_at, is_in, entry_count, directory_blocks, content_blocks, used}
 use Rattle.zj_tree.proofs.OrderLemmas.{Entries, paths_total, paths_exact, content_found}
-use Rattle.zj_tree.proofs.SumLemmas.{sum_put, sum_same, sum_over_keys, find_place}
+use Rattle.zj_tree.proofs.SumLemmas.{sum_put, sum_over_keys, find_place}
 use Rattle.zj_tree.proofs.RootLemmas.{count, blocks_by, used_among}
-use Rattle.zj_tree.proofs.EntryLemmas.{Path', tie, in_parent, new_count, no_children, at_inserted, entry_takes_blocks}
+use Rattle.zj_tree.proofs.EntryLemmas.{Path', tie, in_parent, new_count, at_inserted, entry_takes_blocks}
 use Rattle.zj_tree.proofs.EditLemmas.{Entry', reinserted, replaced, removed_nothing, gone}
 
 clash_none : (c : Content) → Some c ≡ None → ⊥

@@ -1,11 +1,10 @@
 -- Entries of distinct paths in another order, once they are sorted.
-use Rattle.std.proofs.Common.{◌≡◌, ◌≢◌, ℕ, zero, suc, ◌+◌, ◌<◌, ◌≤◌, Bool, true, false, cond, ◌&&◌, T, List, [], ◌∷◌, map, filter, length, get_or, remove, Option, Some, None, sum_by, refl, sym, ap, ◌∙◌, subst, arith}
+use Rattle.std.proofs.Common.{◌≡◌, ℕ, suc, ◌+◌, ◌<◌, ◌≤◌, Bool, true, false, cond, ◌&&◌, T, [], ◌∷◌, map, filter, length, get_or, remove, Option, Some, None, sum_by, refl, sym, ap, ◌∙◌, subst, arith}
 use Rattle.std.specs.declared.cmp.Ordering.{Ordering}
 use Rattle.std.specs.declared.cmp.Ordering.TheVariants.{Less, Equal, Greater}
-use Rattle.std.specs.Ordering.{is_lt, is_eq, eq_by_cmp, ordering_reverse}
-use Rattle.std.specs.List.{Contains}
+use Rattle.std.specs.Ordering.{is_lt, is_eq, eq_by_cmp}
 use Rattle.std.specs.List.Sorted.{IsPermutation, IsSortedByKey}
-use Rattle.std.specs.FinMap.{find, put, is_sorted, entries, get-from_entries, same_map}
+use Rattle.std.specs.FinMap.{find, put, is_sorted, entries, same_map}
 use Rattle.std.specs.FinMap as map_of
 use Rattle.std.specs.FinMap.Entries.{below_all, by_order}
 use Rattle.std.proofs.lemmas.Cmp.{tied_itself}
@@ -35,11 +34,11 @@ at_most_one false = omega arith
 abbrev pub stands_times : Path' → Entries → ℕ
 stands_times q es = sum_by (λ (e : Entry'). cond (eq_by_cmp path_cmp q e.0) 1 0) es
 
-times-cons : (q : Path') (e : Entry') (es : Entries) → stands_times q (e ∷ es) ≡ cond (eq_by_cmp path_cmp q e.0) 1 0 + stands_times q es
+pub times-cons : (q : Path') (e : Entry') (es : Entries) → stands_times q (e ∷ es) ≡ cond (eq_by_cmp path_cmp q e.0) 1 0 + stands_times q es
 times-cons q e es = sum_by-cons (λ (x : Entry'). cond (eq_by_cmp path_cmp q x.0) 1 0) e es
 
 -- a path that isn't found stands nowhere
-none_times : (q : Path') (es : Entries) → find path_cmp q es ≡ None → stands_times q es ≡ 0
+pub none_times : (q : Path') (es : Entries) → find path_cmp q es ≡ None → stands_times q es ≡ 0
 none_times q [] none = refl
 none_times q (e ∷ es) none = by (eq_by_cmp path_cmp q e.0) refl none (none_times q es)
   where

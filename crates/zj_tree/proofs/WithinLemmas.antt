@@ -1,5 +1,5 @@
 -- Trees within limits, after a change.
-use Rattle.std.proofs.Common.{◌≡◌, ◌≢◌, ℕ, ◌+◌, ◌-◌, ◌≤◌, ◌<◌, Bool, true, false, cond, eqb, zero, suc, List, [], ◌∷◌, map, get_or, length, take, drop, ◌++◌, Option, Some, None, is_some, refl, sym, ap, ◌∙◌, subst, arith, length-take}
+use Rattle.std.proofs.Common.{◌≡◌, ◌≢◌, ℕ, ◌+◌, ◌-◌, ◌≤◌, ◌<◌, Bool, true, false, cond, eqb, zero, suc, List, [], ◌∷◌, map, get_or, length, take, drop, ◌++◌, Some, None, is_some, refl, sym, ap, ◌∙◌, subst, arith, length-take}
 use Rattle.std.specs.Ordering.{eq_by_cmp}
 use Rattle.std.specs.FinMap.{insert, entries, from_entries, get-from_entries, contains_key, len, len-entries, len-insert, len-remove, get-insert, get-remove}
 use Rattle.std.specs.declared.cmp.Ordering.TheVariants.{Equal}
@@ -9,7 +9,7 @@ use Rattle.zj_tree.specs.declared.content.Content.{Content}
 use Rattle.zj_tree.specs.declared.content.Content.TheVariants.{Dir, File}
 use Rattle.zj_tree.specs.Bytes.{overwritten}
 use Rattle.zj_tree.specs.Changed.{bytes_of, renamed}
-use Rattle.zj_tree.specs.Tree.{FileTree, path_cmp, content_at, node_count, used, blocks_for, content_blocks}
+use Rattle.zj_tree.specs.Tree.{FileTree, path_cmp, content_at, node_count, used, blocks_for}
 use Rattle.zj_tree.specs.Apply.{Limits, longest_file}
 use Rattle.zj_tree.specs.Laws.{IsWithin}
 use Rattle.zj_tree.proofs.OrderLemmas.{Entries, paths_total}

@@ -1,5 +1,5 @@
 -- The trees that calls make.
-use Rattle.std.specs.Prelude.{ℕ, ◌+◌, List, [], ◌++◌, length, take, drop, map, Option, Some, if◌then◌else◌}
+use Rattle.std.specs.Prelude.{ℕ, List, [], ◌++◌, length, take, drop, map, Option, Some, if◌then◌else◌}
 use Rattle.std.specs.FinMap as map_of
 use Rattle.zj_tree.specs.declared.content.Content.{Content}
 use Rattle.zj_tree.specs.declared.content.Content.TheVariants.{Dir, File}

@@ -6,11 +6,13 @@ ghost use Rattle.zj_tree.specs.Tree.{IsTree, root_alone, used, node_count};
 ghost use Rattle.zj_tree.specs.Changed.{changed, bytes_of};
 ghost use Rattle.zj_tree.specs.Apply.{apply, reasons, first_refusal, answer, longest_file, Fits};
 ghost use Rattle.zj_tree.specs.Entry.{entry_content};
+ghost use Rattle.zj_tree.specs.Laws.{IsWithin};
 
 use crate::bytes::Bytes;
 use crate::call::{Call, Refusal, Reply};
 use crate::content::Content;
 use crate::path::Path;
+use rename::sort;
 use std::alloc::{AllocError, Global};
 use std::marker::Model;
 
@@ -81,6 +83,32 @@ impl Tree {
             room,
             version,
         })
+    }
+
+    /// The tree that has these entries, which stand in whatever order, each path once. It takes up that many blocks, and
+    /// its limits are as in `new`.
+    pub fn from_entries(
+        entries: Vec<(Path, Content)>,
+        blocks: u32,
+        nodes: u32,
+        room: u32,
+        version: u32,
+    ) -> Self
+        requires once { node_count (map_of.from_entries entries.items) ≡ length entries.items }
+        requires tree { IsTree (map_of.from_entries entries.items) }
+        requires blocks { blocks ≡ used (map_of.from_entries entries.items) }
+        requires within { IsWithin (record { nodes = nodes; room = room; version = version }) (map_of.from_entries entries.items) }
+        ensures { result ≡ record { limits = record { nodes = nodes; room = room; version = version }; tree = map_of.from_entries entries.items } }
+    {
+        let mut entries = entries;
+        sort(&mut entries);
+        Tree {
+            entries,
+            blocks,
+            nodes,
+            room,
+            version,
+        }
     }
 
     /// The blocks that the tree takes up.

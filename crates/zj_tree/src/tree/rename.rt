@@ -102,7 +102,7 @@ fn take_out(entries: &mut Vec<(Path, Content)>, path: &[Name])
 }
 
 /// Puts entries into the order of their paths.
-fn sort(entries: &mut Vec<(Path, Content)>)
+pub(super) fn sort(entries: &mut Vec<(Path, Content)>)
     ensures permutation { IsPermutation entries.old.items entries.new.items }
     ensures sorted { IsSortedByKey (λ entry. entry.0) path_cmp entries.new.items }
 {

@@ -1,7 +1,7 @@
 use Rattle.std.proofs.Common.{ℕ, List, ◌+◌, ◌-◌, ◌≤◌, ◌≡◌, length, ap, sym, ◌∙◌, arith}
-use Rattle.zj_tree.specs.declared.content.Content.TheVariants.{Dir, File}
+use Rattle.zj_tree.specs.declared.content.Content.TheVariants.{File}
 use Rattle.zj_tree.specs.Changed.{bytes_at}
-use Rattle.zj_tree.specs.Tree.{FileTree, blocks_for, used, content_at}
+use Rattle.zj_tree.specs.Tree.{blocks_for}
 use Rattle.zj_tree.proofs.RemoveLemmas.{used_replaced, used_at_least, replaced_is_tree}
 use Rattle.zj_tree.proofs.tree.Tree.blocks_resized.Goals as goal
 

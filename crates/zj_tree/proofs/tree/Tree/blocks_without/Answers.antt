@@ -1,5 +1,4 @@
 use Rattle.std.proofs.Common.{◌≡◌, ◌+◌, ◌≤◌, ℕ, ap, ◌∙◌, arith}
-use Rattle.zj_tree.specs.Path.{parent}
 use Rattle.zj_tree.specs.Tree.{entry_count, content_at}
 use Rattle.zj_tree.proofs.RemoveLemmas.{the_content, used_without, without_sum, removed_is_tree}
 use Rattle.zj_tree.proofs.tree.Tree.blocks_without.Goals as goal

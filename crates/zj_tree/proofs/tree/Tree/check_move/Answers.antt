@@ -1,4 +1,4 @@
-use Rattle.std.proofs.Common.{◌≡◌, ◌<◌, ℕ, length, eqb, eq-eqb, false, sym, ap, ◌∙◌, arith}
+use Rattle.std.proofs.Common.{◌<◌, length, sym, ap, ◌∙◌, arith}
 use Rattle.zj_tree.specs.declared.call.Refusal.TheVariants.{Inside}
 use Rattle.zj_tree.specs.Path.{same_path}
 use Rattle.zj_tree.specs.Apply.{refuse_if}

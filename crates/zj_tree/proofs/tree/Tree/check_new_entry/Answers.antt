@@ -1,4 +1,4 @@
-use Rattle.std.proofs.Common.{◌≡◌, rules, arith}
+use Rattle.std.proofs.Common.{◌≡◌, arith}
 use Rattle.std.specs.FinMap as map_of
 use Rattle.std.specs.Result.{result_err}
 use Rattle.zj_tree.specs.Apply.{first_refusal, new_entry_reasons}

@@ -1,4 +1,4 @@
-use Rattle.std.proofs.Common.{◌≡◌, ℕ, ◌≤◌, ◌<◌, ◌^◌, List, length, Some, ap, sym, ◌∙◌, arith}
+use Rattle.std.proofs.Common.{◌≡◌, length, Some, ap, sym, ◌∙◌, arith}
 use Rattle.zj_tree.specs.declared.content.Content.TheVariants.{File}
 use Rattle.zj_tree.specs.Tree.{content_at}
 use Rattle.zj_tree.proofs.WithinLemmas.{longest}

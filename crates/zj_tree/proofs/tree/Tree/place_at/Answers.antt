@@ -1,8 +1,7 @@
-use Rattle.std.proofs.Common.{◌≡◌, List, ℕ, Option, None, IsSome, sym, subst, ap, ◌∙◌, T}
+use Rattle.std.proofs.Common.{None, IsSome, sym, subst, ap, ◌∙◌, T}
 use Rattle.std.specs.FinMap as map_of
 use Rattle.zj_tree.specs.declared.content.Content.{Content}
 use Rattle.zj_tree.specs.Tree.{path_cmp}
-use Rattle.zj_tree.specs.Search.{IsFoundAt}
 use Rattle.zj_tree.proofs.OrderLemmas.{content_found}
 use Rattle.zj_tree.proofs.tree.Tree.place_at.Goals as goal
 

@@ -1,4 +1,4 @@
-use Rattle.std.proofs.Common.{sym, ◌∙◌, ap, length, List, [], ℕ, arith}
+use Rattle.std.proofs.Common.{sym, ◌∙◌, ap, length, [], arith}
 use Rattle.std.specs.FinMap as map_of
 use Rattle.zj_tree.proofs.KeptLemmas.{Shows, shown_within, shown_entries, kept_change, entries_removed}
 use Rattle.zj_tree.proofs.WithinLemmas.{removed_within}

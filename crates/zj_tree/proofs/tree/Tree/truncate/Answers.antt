@@ -1,12 +1,10 @@
-use Rattle.std.proofs.Common.{◌≡◌, ℕ, ◌+◌, ◌-◌, ◌≤◌, List, length, take, min, Some, ap, sym, subst, ◌∙◌, arith, length-take}
+use Rattle.std.proofs.Common.{◌≡◌, ℕ, List, length, take, min, Some, ap, sym, ◌∙◌, arith, length-take}
 use Rattle.std.specs.FinMap as map_of
 use Rattle.zj_tree.specs.declared.content.Content.{Content}
 use Rattle.zj_tree.specs.declared.content.Content.TheVariants.{File}
-use Rattle.zj_tree.specs.Bytes.{overwritten}
 use Rattle.zj_tree.specs.Changed.{bytes_at}
-use Rattle.zj_tree.specs.Tree.{content_at, used}
 use Rattle.zj_tree.proofs.KeptLemmas.{Shows, shown_within, kept_change, found_entry, in_range, with_content}
-use Rattle.zj_tree.proofs.WithinLemmas.{length-overwritten, written_within, truncated_within}
+use Rattle.zj_tree.proofs.WithinLemmas.{truncated_within}
 use Rattle.zj_tree.proofs.tree.Tree.truncate.Goals as goal
 
 file_is : (a b : List ℕ) → Some (File a) ≡ Some (File b) → a ≡ b

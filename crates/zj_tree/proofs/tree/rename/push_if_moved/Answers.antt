@@ -1,4 +1,4 @@
-use Rattle.std.proofs.Common.{List, ℕ, length, take, drop, ◌++◌, IsTrue, sym, subst, ap, ◌∙◌}
+use Rattle.std.proofs.Common.{length, take, drop, IsTrue, sym, subst, ap, ◌∙◌}
 use Rattle.std.proofs.lemmas.List.{take-append-drop}
 use Rattle.zj_tree.specs.Path.{has_names}
 use Rattle.zj_tree.proofs.MovedLemmas.{names_behind}

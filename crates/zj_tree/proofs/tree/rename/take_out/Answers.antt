@@ -1,5 +1,4 @@
-use Rattle.std.proofs.Common.{T, sym, subst, ap, ◌∙◌}
-use Rattle.std.specs.FinMap as map_of
+use Rattle.std.proofs.Common.{subst, ◌∙◌}
 use Rattle.zj_tree.specs.Search.{IsFoundAt, GoesTo}
 use Rattle.zj_tree.proofs.SortLemmas.{taken_out, nothing_out}
 use Rattle.zj_tree.proofs.tree.rename.take_out.Goals as goal
