@@ -12,8 +12,10 @@ pub mod Overwrites
 pub mod Ranged
 pub mod Releases
 pub mod Renames
+pub mod Runs
 pub mod Steps
 pub mod Targets
 pub mod Trims
 pub mod Unlinked
+pub mod Within
 pub mod Writes

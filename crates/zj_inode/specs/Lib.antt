@@ -2,8 +2,10 @@ pub mod Answering
 pub mod Files
 pub mod Finding
 pub mod Footprint
+pub mod Laws
 pub mod Looking
 pub mod Making
 pub mod Performs
 pub mod Removing
 pub mod Renaming
+pub mod Run

@@ -10,6 +10,9 @@
 //!   It is to be taken, and the call performed again.
 //! - `Outcome::Odd`: no state is possible.
 //!
+//! Of lists of calls `laws::history_is_run` says: a legal history whose operations perform calls, of one core or of many, is
+//! the plain service's run of them (`specs/Run.antt`). `laws::footprint_is_within`: what a call may take is in the image.
+//!
 //! How a call is put together: each has a function that goes through its steps in the order of its reasons, leaves by `?`
 //! with what stops it (`Stopped`: a block that is needed, a refusal, Odd, or want of memory), and builds new contents as it
 //! goes. Its three clauses are `done` (the built contents answer the call: `Builds`), `taken` (each was taken) and `stop`
@@ -30,6 +33,7 @@
 mod files;
 mod finding;
 mod finishing;
+pub mod laws;
 mod looking;
 mod making;
 mod outcome;
@@ -39,3 +43,4 @@ mod renaming;
 mod stopped;
 
 pub use outcome::Outcome;
+pub use performing::perform;

@@ -21,7 +21,7 @@ use zj_tree::{Call, Reply};
 
 /// Performs a call over the blocks that were taken, or tells which block it needs besides. It writes nothing: the new
 /// contents are in the outcome.
-pub(crate) fn perform(
+pub fn perform(
     alloc: Global,
     sizes: &Sizes,
     call: &Call,

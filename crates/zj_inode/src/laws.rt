@@ -1,0 +1,18 @@
+//! Laws of calls over blocks: each is what a call with no effect ensures.
+
+ghost use Rattle.zj_inode.specs.Laws.{FootprintIsWithin, HistoryIsRun, PutsAreOne};
+
+/// The blocks that a call may take are blocks of the image.
+pub fn footprint_is_within()
+    ensures { FootprintIsWithin }
+{}
+
+/// New contents are put into a state as a history puts them in.
+pub fn puts_are_one()
+    ensures { PutsAreOne }
+{}
+
+/// A legal history that serves calls is the plain service's run of them.
+pub fn history_is_run()
+    ensures { HistoryIsRun }
+{}
