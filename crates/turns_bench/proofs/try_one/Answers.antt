@@ -2,7 +2,7 @@ use Rattle.std.proofs.Common.{◌≡◌, [], ◌∷◌, inr, ℕ, ◌++◌, ◌-
 use Rattle.std.specs.Ordering.{nat_cmp}
 use Rattle.std.specs.FinMap as finmap
 use Rattle.zj_turns.specs.Views.{Hold, Known, taken, loaded_as, stored_as, hold_in, holding, giving, drawing, operation_of, seal_of}
-use Rattle.zj_turns.specs.Passes.{Standing, IsIdle, lone}
+use Rattle.zj_turns.specs.Passes.{PassState, IsIdle, lone}
 use Rattle.zj_turns.proofs.Stamping.{length-seal_of}
 use Rattle.zj_turns.proofs.Again.{holding_again, held_after}
 use Rattle.zj_turns.proofs.Lone.{lone_step, lone_is, lone_holds, lone_hold, holding_only, has_here, idle_again}
@@ -164,7 +164,7 @@ returns-in-Ok-clause-idle c =
     let k4 : Known = drawing (holding i b h3) (operation_of (holding i b h3) c.draw-ticket.result c.store.new.pass.core 5) in
     let p4 : c.draw-ticket.new.pass ≡ lone t n k4 = lone_step t n (λ k. drawing k (operation_of k c.draw-ticket.result c.store.new.pass.core 5)) (holding i b h3) c.store.new.pass c.draw-ticket.new.pass p3 c.draw-ticket.ensures.pass in
     let p5 : c.give.new.pass ≡ lone t n (giving k4 b) = lone_step t n (λ k. giving k b) k4 c.draw-ticket.new.pass c.give.new.pass p4 c.give.ensures.pass in
-    subst (λ core. IsIdle t core c.give.new.pass) (sym (ap (λ (x : Standing). x.core) p5)) (idle_again i c.requires.idle.none_held t n b h3 (operation_of (holding i b h3) c.draw-ticket.result c.store.new.pass.core 5) c.give.new.pass p5)
+    subst (λ core. IsIdle t core c.give.new.pass) (sym (ap (λ (x : PassState). x.core) p5)) (idle_again i c.requires.idle.none_held t n b h3 (operation_of (holding i b h3) c.draw-ticket.result c.store.new.pass.core 5) c.give.new.pass p5)
 
 pub returns-in-Ok-clause-left : goal.returns-in-Ok-clause-left
 returns-in-Ok-clause-left c =
