@@ -1,15 +1,19 @@
 #!/usr/bin/env python3
-"""Measures the block cache: handles a second of one, two and four threads, on blocks of their own and on one block,
-and the time and greatest memory of making a cache of 4,096 blocks. A ratio is to one thread in the same run; of five
-runs the median of each figure is told.
+"""Measures the block cache: handles a second of one, two and four threads, on blocks of their own and on one block, and
+the time and the greatest memory that a cache of 4,096 blocks takes to be made. A ratio is to one thread in the same run;
+of five runs the median of each figure is told.
 
     bench/turns.py PROGRAM [HANDLES]
 """
+import fcntl
 import os
 import re
 import statistics
 import subprocess
 import sys
+import time
+
+from measure import peak_memory
 
 CASE = re.compile(r"(\d+) on (own blocks|one block): (\d+) us")
 CACHE = re.compile(r"a cache for (\d+) cores: (\d+) us")
@@ -25,12 +29,16 @@ def run(program, handles):
     return cases, {int(cores): int(took) for cores, took in CACHE.findall(text)}
 
 
-def peak_memory(program):
-    """The greatest memory of a run with no handles, in KiB: that of its caches and of the blocks that they begin with."""
-    process = subprocess.Popen([program, "0"], stdout=subprocess.DEVNULL, stderr=subprocess.DEVNULL)
-    _, status, usage = os.wait4(process.pid, 0)
-    assert status == 0, status
-    return usage.ru_maxrss
+def memory(program):
+    """The greatest memory while the first cache is made, in KiB: its answer waits at a pipe that is full."""
+    _, writer = os.pipe()
+    os.write(writer, b"\0" * fcntl.fcntl(writer, fcntl.F_GETPIPE_SZ))
+    waiting = subprocess.Popen([program, "0"], stdout=writer, stderr=subprocess.DEVNULL)
+    time.sleep(2)
+    most = peak_memory(waiting)
+    waiting.kill()
+    waiting.wait()
+    return most
 
 
 def main(program, handles):
@@ -43,7 +51,7 @@ def main(program, handles):
     for cores in runs[0][1]:
         took = statistics.median(caches[cores] for _, caches in runs)
         print(f"a cache of 4,096 blocks for {cores} cores: {took / 1000:.1f} ms")
-    print(f"greatest memory: {peak_memory(program)} KiB")
+    print(f"greatest memory by then, with the blocks that it begins with: {memory(program)} KiB")
 
 
 if __name__ == "__main__":

@@ -174,11 +174,12 @@ fn main(rt: HostRuntime) -> anyhow::Result<()> {
         Some(word) => word.as_str().parse::<u32>()?,
         None => 1_000,
     };
+    make(&rt, 64)?;
+    make(&rt, 1)?;
     for one_block in [false, true] {
         measure(&rt, rt.alloc(), 1, one_block, count)?;
         measure(&rt, rt.alloc(), 2, one_block, count)?;
         measure(&rt, rt.alloc(), 4, one_block, count)?;
     }
-    make(&rt, 1)?;
-    make(&rt, 64)
+    Ok(())
 }
