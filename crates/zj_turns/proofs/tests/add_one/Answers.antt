@@ -38,15 +38,6 @@ load-requires-clause-unstored c =
     let p1 : c.try_take.new.pass ≡ lone t n (holding i b taken) = lone_step t n (λ k. holding k b taken) i c.args.pass c.try_take.new.pass c.requires.idle.is c.in-Ok.ensures.ok in
     ap (λ (h : Hold). h.stored) (lone_hold t n b i taken c.try_take.new.pass p1)
 
-pub load-requires-clause-clear : goal.load-requires-clause-clear
-load-requires-clause-clear c =
-    let t = c.args.cache.now.table in
-    let i : Known = c.requires.idle.known in
-    let n : ℕ = c.args.core in
-    let b : ℕ = c.args.b.0 in
-    let p1 : c.try_take.new.pass ≡ lone t n (holding i b taken) = lone_step t n (λ k. holding k b taken) i c.args.pass c.try_take.new.pass c.requires.idle.is c.in-Ok.ensures.ok in
-    ap (λ (k : Known). k.drawn) (lone_is t n (holding i b taken) c.try_take.new.pass p1) ∙ c.requires.idle.clear
-
 pub store-requires-clause-held : goal.store-requires-clause-held
 store-requires-clause-held c =
     let t = c.args.cache.now.table in
