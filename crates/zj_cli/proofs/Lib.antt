@@ -1,4 +1,5 @@
 pub mod AskedLemmas
+pub mod AnswerLemmas
 pub mod StreamLemmas
 pub mod WordLemmas
 pub mod Ends

@@ -1,4 +1,4 @@
-//! The tree of an image that was opened.
+//! The volume of an image that was opened: the blocks of home, which show its tree.
 
 ghost use Rattle.std.specs.Prelude.{◌≡◌, ◌⊎◌, ◌<◌, ◌≤◌, ℕ, Some, IfOk, IfErr, IfSome, OnOk, length, slice_get};
 ghost use Rattle.zj_block.specs.declared.sizes.TheConstants.{MAX_CORES};
@@ -7,7 +7,8 @@ ghost use Rattle.zj_dev.specs.Disk.{OnlyReads};
 ghost use Rattle.zj_dev.specs.Fault.{Rose};
 ghost use Rattle.zj_home.specs.Made.{HoldsBlocks};
 ghost use Rattle.zj_home.specs.Super.{block_bytes_in};
-ghost use Rattle.zj_layout.specs.Shows.{limits_of};
+ghost use Rattle.zj_tree.specs.Tree.{FileTree};
+ghost use Rattle.zj_layout.specs.Shows.{Shows};
 ghost use Rattle.zj_cli.specs.declared.status.Fault.TheVariants as faults;
 ghost use Rattle.zj_cli.specs.declared.status.ImageFault.TheVariants as images;
 ghost use Rattle.zj_dev.specs.declared.device.Device.TheVariants as devices;
@@ -23,18 +24,18 @@ use zj_block::{Block, BlockNo, Blocks};
 use zj_dev::{Device, Disk};
 use zj_home::Home;
 use zj_layout::read_tree;
-use zj_tree::Tree;
+use zj_volume::Volume;
 
-/// The tree that home's blocks show. Until records are replayed, a journal that holds one is refused, by the lowest
-/// core. It reads the devices and writes none.
+/// The volume of home's blocks, which show a tree. Until records are replayed, a journal that holds one is refused, by the
+/// lowest core. It reads the devices and writes none.
 pub fn mount<D: Disk>(
     alloc: Global,
     home: &mut Home<D>,
     areas: &mut [Area<D>],
-) -> Result<Tree, Fault>
+) -> Result<Volume, Fault>
     requires { AllOpened home.old.told areas.old }
-    ensures tree { IfOk result (λ tree. HasTree D.view home.old.told home.old.device areas.old tree.tree) }
-    ensures limits { IfOk result (λ tree. tree.limits ≡ limits_of home.old.told.sizes) }
+    ensures tree { IfOk result (λ volume. (tree : FileTree) × HasTree D.view home.old.told home.old.device areas.old tree × Shows volume.sizes volume.state tree) }
+    ensures sizes { IfOk result (λ volume. volume.sizes ≡ home.old.told.sizes) }
     ensures told { home.new.told ≡ home.old.told }
     ensures home_read { OnlyReads (D.view home.old.device) (D.view home.new.device) }
     ensures read { AreRead D.view areas.old areas.new }
@@ -44,7 +45,9 @@ pub fn mount<D: Disk>(
     scan_all(areas, &mut counts)?;
     refuse_records(&counts)?;
     let blocks = read_blocks(alloc, home)?;
-    Ok(read_tree(alloc, home.sizes(), &blocks)?)
+    let sizes = *home.sizes();
+    let _tree = read_tree(alloc, &sizes, &blocks)?;
+    Ok(Volume::new(sizes, blocks))
 }
 
 /// Refuses the first journal that holds a record, of journals that hold so many each.

@@ -1,4 +1,4 @@
-//! `play`: the calls of a schedule in order, each on the tree that those before it left.
+//! `play`: the calls of a schedule in order, each on the blocks that those before it left.
 
 ghost use Rattle.std.specs.Prelude.{◌≡◌, ◌≢◌, ◌⊎◌, ◌++◌, ℕ, IfErr, IfOk, IsErr, OnOk, OnErr};
 ghost use Rattle.std.specs.List.{flat_map};
@@ -7,7 +7,7 @@ ghost use Rattle.zj_dev.specs.Disk.{OnlyReads};
 ghost use Rattle.zj_dev.specs.Shelf.{ShelfView};
 ghost use Rattle.zj_tree.specs.Apply.{apply};
 ghost use Rattle.zj_tree.specs.Tree.{FileTree};
-ghost use Rattle.zj_layout.specs.Shows.{limits_of};
+ghost use Rattle.zj_layout.specs.Shows.{Shows, limits_of};
 ghost use Rattle.zj_script.specs.Answers.{answer_text};
 ghost use Rattle.zj_cli.specs.declared.status.Fault.TheVariants as faults;
 ghost use Rattle.zj_cli.specs.Mount.{HasTree, IsMountCause};
@@ -28,7 +28,8 @@ use zj_area::Area;
 use zj_dev::{Disk, Shelf, Sink, Source};
 use zj_home::Home;
 use zj_script::{Act, Answer, Form, Line, write_answer};
-use zj_tree::{Bytes, Call, Tree};
+use zj_tree::{Bytes, Call};
+use zj_volume::Volume;
 
 /// Reads a schedule, makes its calls on the tree of the image on a shelf, and writes their answers. It writes no device, and all
 /// that it opened is closed again.
@@ -75,40 +76,39 @@ fn play_set<D: Disk, S: Source, K: Sink>(
         ⊎ (IfErr result (IsMountCause D.view home.old.told home.old.device home.new.device areas.old areas.new) × (IsErr result) × (input.new ≡ input.old) × (out.new ≡ out.old)) }
     ensures unwritten { OnErr result (result ≢ Err faults.Output → out.new ≡ out.old) }
 {
-    let tree = mount(alloc, home, areas)?;
-    play_script(alloc, home.sizes().cores(), tree, input, out)
+    let volume = mount(alloc, home, areas)?;
+    play_script(alloc, volume, input, out)
 }
 
-/// Reads a schedule for so many cores, makes its calls from a tree on, and writes their answers.
+/// Reads a schedule for the cores of a volume, makes its calls there, and writes their answers.
 fn play_script<S: Source, K: Sink>(
     alloc: Global,
-    cores: u32,
-    tree: Tree,
+    volume: Volume,
     input: &mut S,
     out: &mut K,
 ) -> Result<(), Fault>
-    ensures ends { (names now : ShelfView) (faults since : ℕ) → ScriptEnds cores tree.limits tree.tree
+    ensures ends { (tree : FileTree) → Shows volume.sizes volume.state tree → (names now : ShelfView) (faults since : ℕ) → ScriptEnds volume.sizes.cores (limits_of volume.sizes) tree
         (record { left = S.left input.old; held = K.held out.old; names = names; input_faults = S.faults input.old; output_faults = K.faults out.old; shelf_faults = faults })
         (record { left = S.left input.new; held = K.held out.new; names = now; input_faults = S.faults input.new; output_faults = K.faults out.new; shelf_faults = since })
         (result_err result) }
     ensures unwritten { OnErr result (result ≢ Err faults.Output → out.new ≡ out.old) }
 {
     let text = read_whole(alloc, input)?;
-    let schedule = read_built(alloc, cores, &text)?;
-    let answers = answer_lines(alloc, tree, schedule.as_slice())?;
+    let schedule = read_built(alloc, volume.sizes().cores(), &text)?;
+    let answers = answer_lines(alloc, volume, schedule.as_slice())?;
     write_whole(out, answers.as_slice())
 }
 
-/// The answers to the lines, from a tree on.
-fn answer_lines(alloc: Global, tree: Tree, lines: &[Line]) -> Result<Bytes, AllocError>
-    ensures { IfOk result (λ out. out ≡ flat_map answer_text (answers_from tree.limits tree.tree 0 (calls_of lines.now))) }
+/// The answers to the lines, whose calls are made on a volume.
+fn answer_lines(alloc: Global, volume: Volume, lines: &[Line]) -> Result<Bytes, AllocError>
+    ensures { IfOk result (λ out. (tree : FileTree) → Shows volume.sizes volume.state tree → out ≡ flat_map answer_text (answers_from (limits_of volume.sizes) tree 0 (calls_of lines.now))) }
 {
-    let mut tree = tree;
+    let mut volume = volume;
     let mut out = Bytes::new(alloc);
     let mut ticket = 0;
     for line in lines {
         if let Act::Call(call) = &line.act {
-            answer_call(&mut tree, ticket, line, call, &mut out)?;
+            answer_call(alloc, &mut volume, ticket, line, call, &mut out)?;
             ticket += 1;
         }
     }
@@ -117,17 +117,18 @@ fn answer_lines(alloc: Global, tree: Tree, lines: &[Line]) -> Result<Bytes, Allo
 
 /// Makes the call of a line, and adds its answer.
 fn answer_call(
-    tree: &mut Tree,
+    alloc: Global,
+    volume: &mut Volume,
     ticket: u64,
     line: &Line,
     call: &Call,
     out: &mut Bytes,
 ) -> Result<(), AllocError>
-    ensures answer { OnOk result (out.new ≡ out.old ++ answer_text (answer_to tree.old.limits tree.old.tree ticket (line.now, call.now))) }
-    ensures tree { OnOk result (tree.new.tree ≡ (apply tree.old.limits call.now tree.old.tree).1) }
-    ensures limits { tree.new.limits ≡ tree.old.limits }
+    ensures answer { OnOk result ((tree : FileTree) → Shows volume.old.sizes volume.old.state tree → out.new ≡ out.old ++ answer_text (answer_to (limits_of volume.old.sizes) tree ticket (line.now, call.now))) }
+    ensures shows { OnOk result ((tree : FileTree) → Shows volume.old.sizes volume.old.state tree → Shows volume.new.sizes volume.new.state (apply (limits_of volume.old.sizes) call.now tree).1) }
+    ensures sizes { volume.new.sizes ≡ volume.old.sizes }
 {
-    let reply = tree.apply(call)?;
+    let reply = volume.apply(alloc, call)?;
     let answer = Answer {
         line: line.number,
         core: line.core,

@@ -16,19 +16,24 @@ returns-in_err-refuse_records-clause-cause g c =
           (omega (arith, c.in_ok-scan_all.ensures.many, slice_get_within c.scan_all.new.counts.items first.0 first.1 first.3)) first.5 first.3 first.4,
     )))
 
-pub returns-in_err-read_tree-clause-cause : goal.returns-in_err-read_tree-clause-cause
-returns-in_err-read_tree-clause-cause g c =
-    let p = err_from_is_err_and c.from_residual-in_err-read_tree.result c.from_residual-in_err-read_tree.ensures.1 in
+pub returns-in_err-_tree-clause-cause : goal.returns-in_err-_tree-clause-cause
+returns-in_err-_tree-clause-cause g c =
+    let p = err_from_is_err_and c.from_residual-in_err-_tree.result c.from_residual-in_err-_tree.ensures.1 in
     let none = rw c.deref.ensures.value at c.in_ok-refuse_records.ensures.none in
     let empty = are_empty g.D.Disk.view c.args.areas.now c.scan_all.new.counts.items (length c.args.areas.now) c.in_ok-scan_all.ensures.counted (λ core below. none core (omega (arith, below, c.in_ok-scan_all.ensures.many))) in
     rw (p.1, p.2)
-    (tree_cause g.D.Disk.view c.args.home.now.told c.args.home.now.device c.read_blocks.new.home.device c.args.areas.now c.scan_all.new.areas c.in_ok-blocks.blocks c.in_err-read_tree.field-0.0 empty c.in_ok-blocks.ensures.many c.in_ok-blocks.ensures.held
-    (rw (c.sizes.ensures, c.in_ok-blocks.ensures.told) at c.in_err-read_tree.ensures.fault))
+    (tree_cause g.D.Disk.view c.args.home.now.told c.args.home.now.device c.read_blocks.new.home.device c.args.areas.now c.scan_all.new.areas c.in_ok-blocks.blocks c.in_err-_tree.field-0.0 empty c.in_ok-blocks.ensures.many c.in_ok-blocks.ensures.held
+    (rw (c.sizes.ensures, c.in_ok-blocks.ensures.told) at c.in_err-_tree.ensures.fault))
 
 pub returns-clause-tree : goal.returns-clause-tree
 returns-clause-tree g c =
     let none = rw c.deref.ensures.value at c.in_ok-refuse_records.ensures.none in
-    record {
-      empty = are_empty g.D.Disk.view c.args.areas.now c.scan_all.new.counts.items (length c.args.areas.now) c.in_ok-scan_all.ensures.counted (λ core below. none core (omega (arith, below, c.in_ok-scan_all.ensures.many)));
-      shows = shows_in (g.D.Disk.view c.args.home.now.device).bytes c.args.home.now.told.sizes c.in_ok-blocks.blocks c.in_ok-read_tree.field-0.tree c.in_ok-blocks.ensures.held (rw (c.sizes.ensures, c.in_ok-blocks.ensures.told) at c.in_ok-read_tree.ensures.shows);
-    }
+    let shows = c.in_ok-_tree.ensures.shows in
+    (
+      c.in_ok-_tree._tree.tree,
+      record {
+        empty = are_empty g.D.Disk.view c.args.areas.now c.scan_all.new.counts.items (length c.args.areas.now) c.in_ok-scan_all.ensures.counted (λ core below. none core (omega (arith, below, c.in_ok-scan_all.ensures.many)));
+        shows = shows_in (g.D.Disk.view c.args.home.now.device).bytes c.args.home.now.told.sizes c.in_ok-blocks.blocks c.in_ok-_tree._tree.tree c.in_ok-blocks.ensures.held (rw (c.sizes.ensures, c.in_ok-blocks.ensures.told) at shows);
+      },
+      rw c.new.ensures shows,
+    )
