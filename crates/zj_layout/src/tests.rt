@@ -144,8 +144,11 @@ fn a_broken_image_names_rule_and_block(rt: HostRuntime) -> Result<(), Fail> {
         ((1, 140, 0), (1, 0, 2), (1, 1)),
         ((1, 144, 6), (1, 0, 2), (1, 1)),
         ((1, 248, 1), (1, 0, 2), (1, 1)),
+        ((1, 256, 3), (1, 0, 2), (1, 1)),
         ((1, 140, 4), (1, 0, 2), (2, 1)),
+        ((1, 140, 4), (0, 4, 1), (2, 1)),
         ((1, 140, 2), (2, 32, 0), (2, 1)),
+        ((1, 4, 3), (1, 0, 2), (3, 2)),
         ((2, 32, 0), (1, 0, 2), (3, 2)),
         ((2, 32, 4), (1, 0, 2), (3, 2)),
         ((3, 0, 8), (1, 0, 2), (3, 3)),
@@ -193,6 +196,118 @@ fn two_directories_in_each_other_are_not_reached(rt: HostRuntime) -> Result<(), 
     assert_eq!(rt; fault(rt.alloc(), &sizes, &blocks)?, (5, 3));
     set(&mut blocks, &[(3, 64, 9), (1, 0, 1)])?;
     assert_eq!(rt; fault(rt.alloc(), &sizes, &blocks)?, (1, 3));
+    Ok(())
+}
+
+// Puts an entry whose name, of two letters, tells its node.
+fn enter(blocks: &mut Blocks, block: u32, place: u32, node: u32) -> Result<(), Fail> {
+    let letters = [b'a' + (node / 16 % 16) as u8, b'a' + (node % 16) as u8];
+    let name = Name::new(&letters).ok_or("a name")?;
+    let mut content = *blocks.at(block as usize).ok_or("block")?;
+    put_link(&mut content, place % 16, &Link { node, name });
+    blocks.put(block as usize, &content).ok_or("block")?;
+    Ok(())
+}
+
+fn take(blocks: &mut Blocks, block: u32) -> Result<(), Fail> {
+    let of_map = (block / 512) as usize;
+    let mut content = *blocks.at(of_map).ok_or("block")?;
+    put_in_use(&mut content, block % 512, true);
+    blocks.put(of_map, &content).ok_or("block")?;
+    Ok(())
+}
+
+// An image of 64 blocks and 200 nodes whose root has so many files.
+fn root_with(alloc: Global, sizes: &Sizes, entries: u32) -> Result<Blocks, Fail> {
+    let mut blocks = format(alloc, sizes)?;
+    set(&mut blocks, &[(1, 4, entries)])?;
+    for place in 0..entries {
+        let block = 26 + place / 16;
+        let node = place as usize + 1;
+        set(
+            &mut blocks,
+            &[
+                (1, 8 + 4 * (place / 16) as usize, block),
+                (1 + node / 8, 64 * (node % 8), 1),
+            ],
+        )?;
+        enter(&mut blocks, block, place, place + 1)?;
+        take(&mut blocks, block)?;
+    }
+    Ok(blocks)
+}
+
+#[test]
+fn a_directory_has_up_to_192_entries(rt: HostRuntime) -> Result<(), Fail> {
+    let sizes = sizes(64, 200)?;
+    for (entries, used) in [(16, 1), (17, 2), (192, 12)] {
+        let mut blocks = root_with(rt.alloc(), &sizes, entries)?;
+        let tree = read(rt.alloc(), &sizes, &blocks)?.ok().ok_or("a tree")?;
+        assert_eq!(rt;
+            (tree.nodes(), tree.used()),
+            (entries + 1, used),
+            "at {entries}"
+        );
+        enter(&mut blocks, 26, 0, entries)?;
+        assert_eq!(rt;
+            fault(rt.alloc(), &sizes, &blocks)?,
+            (4, 25 + used),
+            "at {entries}"
+        );
+    }
+    Ok(())
+}
+
+// An image of 24 nodes, which stand from a block on: each of the first 20 has an entry that leads to the next one, in a
+// block of its own from another block on, and the last one is a file.
+fn chain(alloc: Global, sizes: &Sizes, nodes: u16, first: u16) -> Result<Blocks, Fail> {
+    let mut blocks = format(alloc, sizes)?;
+    for i in 0..20_u16 {
+        let of_node = usize::from(nodes) + usize::from(i / 8);
+        let at = 64 * usize::from(i % 8);
+        let block = u32::from(first) + u32::from(i);
+        set(
+            &mut blocks,
+            &[
+                (of_node, at, 2),
+                (of_node, at + 4, 1),
+                (of_node, at + 8, block),
+            ],
+        )?;
+        enter(&mut blocks, block, 0, u32::from(i) + 1)?;
+        take(&mut blocks, block)?;
+    }
+    set(&mut blocks, &[(usize::from(nodes) + 2, 256, 1)])?;
+    Ok(blocks)
+}
+
+#[test]
+fn a_deep_path_is_read(rt: HostRuntime) -> Result<(), Fail> {
+    for (count, nodes, first) in [(64, 1, 4), (1024, 2, 600)] {
+        let sizes = sizes(count, 24)?;
+        let blocks = chain(rt.alloc(), &sizes, nodes, first)?;
+        let tree = read(rt.alloc(), &sizes, &blocks)?.ok().ok_or("a tree")?;
+        assert_eq!(rt; (tree.nodes(), tree.used()), (21, 20), "at {count}");
+        let (path, _) = tree.at(20).ok_or("an entry")?;
+        assert_eq!(rt; path.len(), 20, "at {count}");
+        assert_eq!(rt; file_at(&tree, 20)?.len(), 0, "at {count}");
+    }
+    Ok(())
+}
+
+#[test]
+fn a_map_of_two_blocks_is_read(rt: HostRuntime) -> Result<(), Fail> {
+    let sizes = sizes(1024, 24)?;
+    for (number, found) in [
+        ((1, 188, 1), (6, 1)),
+        ((1, 88, 0), (6, 1)),
+        ((0, 20, 1), (6, 0)),
+        ((1, 108, 0), (0, 0)),
+    ] {
+        let mut blocks = chain(rt.alloc(), &sizes, 2, 600)?;
+        set(&mut blocks, &[number])?;
+        assert_eq!(rt; fault(rt.alloc(), &sizes, &blocks)?, found, "at {number:?}");
+    }
     Ok(())
 }
 
