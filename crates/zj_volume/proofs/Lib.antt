@@ -1,0 +1,4 @@
+pub mod Left
+pub mod Puts
+pub mod Served
+pub mod Takes
