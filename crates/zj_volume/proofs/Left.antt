@@ -1,5 +1,5 @@
 -- A count of numbers that pass a test falls where one passes no more.
-use Rattle.std.proofs.Common.{◌≡◌, ℕ, zero, suc, ◌+◌, ◌<◌, ◌≤◌, Bool, true, false, cond, refl, ap, ◌∙◌, subst, arith}
+use Rattle.std.proofs.Common.{◌≡◌, ℕ, zero, suc, ◌+◌, ◌<◌, ◌≤◌, Bool, true, false, cond, refl, ap, ◌∙◌, arith}
 use Rattle.std.specs.List.{range_with_len, count_by, fold}
 use native.Mathlib.Decide.{ℕ_discrete}
 

@@ -1,7 +1,6 @@
 -- What performing a call answers, over blocks that were taken as a state has them.
-use Rattle.std.proofs.Common.{◌≡◌, ℕ, ◌<◌, List, [], length, Some, None, sym, subst, arith}
-use Rattle.std.specs.Prelude.{slice_get}
-use Rattle.zj_block.specs.Lists.{Entries, content_under}
+use Rattle.std.proofs.Common.{◌≡◌, ◌<◌, [], length, sym, subst, arith}
+use Rattle.zj_block.specs.Lists.{Entries}
 use Rattle.zj_block.specs.Sizes.{Numbers}
 use Rattle.zj_block.specs.declared.numbers.BlockNo.{BlockNo}
 use Rattle.zj_tree.specs.declared.call.Call.{Call}

@@ -1,7 +1,6 @@
 -- The contents are put in from the last one on.
-use Rattle.std.proofs.Common.{◌≡◌, ◌-◌, ◌<◌, length, drop, [], Some, None, sym, ap, ◌∙◌, subst, arith}
+use Rattle.std.proofs.Common.{◌≡◌, ◌-◌, ◌<◌, length, drop, [], sym, ap, ◌∙◌, arith}
 use Rattle.std.specs.FinMap as map_of
-use Rattle.std.specs.Prelude.{slice_get}
 use Rattle.std.proofs.lemmas.Option.{slice_get-get_or}
 use Rattle.zj_layout.proofs.Follow.{none_some}
 use Rattle.zj_history.specs.State.{put_all}
