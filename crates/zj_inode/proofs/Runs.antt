@@ -1,7 +1,7 @@
 -- A legal history that serves calls is the plain service's run of them.
-use Rattle.std.proofs.Common.{◌≡◌, ℕ, zero, suc, ◌+◌, ◌-◌, ◌<◌, Bool, true, false, cond, eqb, eqb-true, List, [], ◌∷◌, ◌++◌, length, map, Option, Some, None, refl, sym, ap, ◌∙◌, subst, arith, get_or}
+use Rattle.std.proofs.Common.{◌≡◌, ℕ, suc, ◌+◌, ◌-◌, ◌<◌, Bool, true, false, cond, eqb, eqb-true, List, [], ◌∷◌, ◌++◌, length, map, Option, Some, None, refl, sym, ap, ◌∙◌, subst, arith, get_or}
 use Rattle.std.specs.Prelude.{slice_get, find}
-use Rattle.std.specs.List.{All, fold}
+use Rattle.std.specs.List.{All}
 use Rattle.std.specs.FinMap as map_of
 use Rattle.std.specs.Option.{option_map, option_or, unwrap_or}
 use Rattle.std.proofs.lemmas.List.{length-append}
@@ -23,7 +23,7 @@ use Rattle.zj_tree.specs.declared.call.Reply.{Reply}
 use Rattle.zj_tree.specs.Apply.{Limits, apply}
 use Rattle.zj_tree.specs.Tree.{FileTree}
 use Rattle.zj_layout.specs.Image.{State, block_at}
-use Rattle.zj_layout.specs.Shows.{Changes, Shows, limits_of, put_blocks}
+use Rattle.zj_layout.specs.Shows.{Shows, limits_of, put_blocks}
 use Rattle.zj_layout.proofs.Live.{at_old}
 use Rattle.zj_dirs.specs.Possible.{IsPossible}
 use Rattle.zj_inode.specs.Laws.{HistoryIsRun, PutsAreOne}

@@ -1,21 +1,18 @@
 -- The blocks that a call may take are blocks of the image.
-use Rattle.std.proofs.Common.{◌≡◌, ◌⊎◌, inl, inr, ℕ, ◌+◌, ◌-◌, ◌/◌, ◌%◌, ◌<◌, ◌≤◌, List, Some, refl, sym, ap, ◌∙◌, subst, arith}
-use Rattle.zj_block.specs.Sizes.{Numbers, IsInLimits, map_blocks}
+use Rattle.std.proofs.Common.{◌≡◌, inl, inr, ℕ, ◌-◌, ◌/◌, ◌<◌, List, Some, sym, subst, arith}
+use Rattle.zj_block.specs.Sizes.{Numbers, IsInLimits}
 use Rattle.zj_tree.specs.declared.call.Call.{Call}
 use Rattle.zj_tree.specs.declared.call.Call.TheVariants as calls
-use Rattle.zj_tree.specs.Path.{parent}
 use Rattle.zj_tree.specs.Tree.{FileTree}
-use Rattle.zj_layout.specs.Graph.{follow, IsRooted}
+use Rattle.zj_layout.specs.Graph.{follow}
 use Rattle.zj_layout.specs.Image.{State, Image, image_of, graph_of, node_of, node_block, map_block, item_block, count_of, number_of}
 use Rattle.zj_layout.specs.Node.{per_block}
-use Rattle.zj_layout.specs.Rules.{HasPlace}
-use Rattle.zj_layout.specs.Stored.{IsStored}
 use Rattle.zj_layout.specs.Shows.{Shows}
 use Rattle.zj_layout.proofs.Changed.{item_within}
 use Rattle.zj_layout.proofs.Fresh.{past_node}
 use Rattle.zj_layout.proofs.Live.{led_live}
 use Rattle.zj_layout.proofs.Sound.{link_place, none_count}
-use Rattle.zj_dirs.specs.Walking.{IsOnTheWay, IsStepBlock, IsSearched}
+use Rattle.zj_dirs.specs.Walking.{IsStepBlock}
 use Rattle.zj_dirs.proofs.Walks.{possible_stored, possible_rooted}
 use Rattle.zj_inode.specs.Footprint.{Foot, the_root, on_the_way, found, listed, in_range, last_of_parent, removed, free_node, map_of_freed, map_of_new, new, FreesOf, HasEntry, Shrinks, size_of}
 use Rattle.zj_inode.specs.Laws.{FootprintIsWithin}

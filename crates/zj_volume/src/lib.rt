@@ -15,3 +15,6 @@ mod serving;
 mod volume;
 
 pub use volume::Volume;
+
+#[cfg(test)]
+mod tests;
