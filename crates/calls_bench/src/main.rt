@@ -5,8 +5,9 @@
 
 use anyhow::Context;
 use std::alloc::Global;
+use std::env;
+use std::io::Read;
 use std::time::Instant;
-use std::{env, io::Read};
 use zj_block::{Sizes, VERSION};
 use zj_layout::format;
 use zj_script::{Act, Line, read_script};
@@ -60,8 +61,9 @@ fn main(rt: HostRuntime) -> anyhow::Result<()> {
     let [blocks, nodes] = words.as_slice() else {
         anyhow::bail!("the words are how many blocks and nodes the image has");
     };
-    let sizes = Sizes::new(VERSION, blocks.parse()?, nodes.parse()?, CORES, AREA)
-        .context("no image has such sizes")?;
+    let sizes = Sizes::new(VERSION, blocks.parse()?, nodes.parse()?, CORES, AREA).context(
+        "no image has such sizes",
+    )?;
     let script = read_script(alloc, CORES, &read_input(&rt)?)?;
     let begin = Instant::now(&rt)?;
     let plain = on_tree(alloc, &sizes, script.as_slice())?;
@@ -69,7 +71,19 @@ fn main(rt: HostRuntime) -> anyhow::Result<()> {
     let begin = Instant::now(&rt)?;
     let replies = on_blocks(alloc, &sizes, script.as_slice())?;
     let on_blocks = begin.elapsed(&rt)?;
-    println!(rt; "{} calls, {}", script.len(), if plain == replies { "the same replies" } else { "other replies" })?;
-    eprintln!(rt; "tree {} us, blocks {} us", on_tree.as_micros(), on_blocks.as_micros())?;
+    println!(rt;
+        "{} calls, {}",
+        script.len(),
+        if plain == replies {
+            "the same replies"
+        } else {
+            "other replies"
+        }
+    )?;
+    eprintln!(rt;
+        "tree {} us, blocks {} us",
+        on_tree.as_micros(),
+        on_blocks.as_micros()
+    )?;
     Ok(())
 }

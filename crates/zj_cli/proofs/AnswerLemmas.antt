@@ -41,8 +41,7 @@ call_answered sizes start old new out out' ticket left rest lines line call befo
     let texts = λ (from : FileTree) (n : ℕ) (ls : List Line). flat_map answer_text (answers_from limits from n (calls_of ls)) in
     let then = (apply limits call b.0).1 in
     let first : flat_map answer_text (answers_from limits b.0 ticket (calls_of left)) ≡ answer_text (answer_to limits b.0 ticket (line, call)) ++ flat_map answer_text (answers_from limits then (ticket + 1) (calls_of rest)) =
-        ap (λ (ls : List Line). flat_map answer_text (answers_from limits b.0 ticket (calls_of ls))) next ∙ ap (λ (ms : List (Line × Call)). flat_map answer_text (answers_from limits b.0 ticket (ms ++ calls_of rest))) made in
-    (
+    ap (λ (ls : List Line). flat_map answer_text (answers_from limits b.0 ticket (calls_of ls))) next ∙ ap (λ (ms : List (Line × Call)). flat_map answer_text (answers_from limits b.0 ticket (ms ++ calls_of rest))) made in (
       then,
       leaves b.0 b.1,
       ap (λ (o : List ℕ). o ++ flat_map answer_text (answers_from limits then (ticket + 1) (calls_of rest))) (answer b.0 b.1)

@@ -1,4 +1,3 @@
-use Rattle.std.proofs.Common.{sym}
 use Rattle.zj_cli.proofs.AskedLemmas.{all_built, got, one_more_built, unbuilt_at}
 use Rattle.zj_cli.proofs.asked.refuse_unbuilt.Goals as goal
 

@@ -28,8 +28,7 @@ returns-in_err-_tree-clause-cause g c =
 pub returns-clause-tree : goal.returns-clause-tree
 returns-clause-tree g c =
     let none = rw c.deref.ensures.value at c.in_ok-refuse_records.ensures.none in
-    let shows = c.in_ok-_tree.ensures.shows in
-    (
+    let shows = c.in_ok-_tree.ensures.shows in (
       c.in_ok-_tree._tree.tree,
       record {
         empty = are_empty g.D.Disk.view c.args.areas.now c.scan_all.new.counts.items (length c.args.areas.now) c.in_ok-scan_all.ensures.counted (λ core below. none core (omega (arith, below, c.in_ok-scan_all.ensures.many)));

@@ -1,5 +1,5 @@
 use Rattle.std.proofs.Common.{refl, ap, ◌∙◌, arith, drop, ◌+◌}
-use Rattle.zj_cli.proofs.AnswerLemmas.{all_answered, call_answered_in, left_at, none_answered, none_made, other_answered}
+use Rattle.zj_cli.proofs.AnswerLemmas.{call_answered_in, left_at, none_answered, none_made, other_answered}
 use Rattle.zj_cli.specs.Play.{made_by}
 use Rattle.zj_cli.proofs.play.answer_lines.Goals as goal
 use Rattle.zj_cli.proofs.play.answer_lines.Goals.{in-Call+in_ok-answer_call, in_default}
