@@ -277,29 +277,49 @@ fn the_last_entry_moves_into_the_hole(rt: HostRuntime) -> Result<(), Fail> {
     Ok(())
 }
 
-// An image whose root has a directory, which has one, and so on, and the last one a file: each has the name `d`.
-fn nested(alloc: Global, sizes: &Sizes) -> Result<Blocks, Fail> {
+// An image whose root has a directory, which has one, and so on, so many, and the last one a file: each has the name `d`.
+fn nested(alloc: Global, sizes: &Sizes, depth: u8) -> Result<Blocks, Fail> {
     let mut blocks = format(alloc, sizes)?;
-    for i in 0..4 {
+    for i in 0..depth {
         let link = Link {
-            node: i + 1,
+            node: u32::from(i) + 1,
             name: Name::new(b"d").ok_or("a name")?,
         };
-        let at = 64 * i as usize;
-        set(&mut blocks, (1, at, 2))?;
-        set(&mut blocks, (1, at + 4, 1))?;
-        set(&mut blocks, (1, at + 8, 2 + i))?;
-        set_entry(&mut blocks, 2 + i as usize, 0, &link)?;
-        set_in_use(&mut blocks, 2 + i)?;
+        let of_node = 1 + usize::from(i / 8);
+        let at = 64 * usize::from(i % 8);
+        let block = sizes.first_data() + u32::from(i);
+        set(&mut blocks, (of_node, at, 2))?;
+        set(&mut blocks, (of_node, at + 4, 1))?;
+        set(&mut blocks, (of_node, at + 8, block))?;
+        set_entry(&mut blocks, block as usize, 0, &link)?;
+        set_in_use(&mut blocks, block)?;
     }
-    set(&mut blocks, (1, 256, 1))?;
+    let of_node = 1 + usize::from(depth / 8);
+    set(&mut blocks, (of_node, 64 * usize::from(depth % 8), 1))?;
     Ok(blocks)
+}
+
+// Where a path leads once so many blocks are taken, each as it is needed.
+fn walk_taking(
+    sizes: &Sizes,
+    blocks: &Blocks,
+    path: &Path,
+    taken: &mut Taken,
+    count: u32,
+) -> Result<Walk, Fail> {
+    for _ in 0..count {
+        match walk(sizes, path, taken) {
+            Walk::Need(block) => take(taken, blocks, block)?,
+            _ => return Err("no block is needed")?,
+        }
+    }
+    Ok(walk(sizes, path, taken))
 }
 
 #[test]
 fn a_path_leads_to_a_node(rt: HostRuntime) -> Result<(), Fail> {
     let sizes = sizes(64)?;
-    let blocks = nested(rt.alloc(), &sizes)?;
+    let blocks = nested(rt.alloc(), &sizes, 4)?;
     for (text, found, count) in [
         (b"/".as_slice(), Walk::Found { node: 0 }, 0),
         (b"/d", Walk::Found { node: 1 }, 2),
@@ -310,14 +330,7 @@ fn a_path_leads_to_a_node(rt: HostRuntime) -> Result<(), Fail> {
     ] {
         let path = Path::parse(rt.alloc(), text)?.ok_or("a path")?;
         let mut taken = Taken::new(rt.alloc());
-        let mut answer = walk(&sizes, &path, &taken);
-        for _ in 0..count {
-            match answer {
-                Walk::Need(block) => take(&mut taken, &blocks, block)?,
-                _ => return Err("no block is needed")?,
-            }
-            answer = walk(&sizes, &path, &taken);
-        }
+        let answer = walk_taking(&sizes, &blocks, &path, &mut taken, count)?;
         assert_eq!(rt; answer, found, "at {count}");
         assert_eq!(rt;
             walk_names(&sizes, path.as_slice(), &taken),
@@ -325,6 +338,17 @@ fn a_path_leads_to_a_node(rt: HostRuntime) -> Result<(), Fail> {
             "at {count}"
         );
     }
+    Ok(())
+}
+
+#[test]
+fn a_path_of_16_names_leads_to_a_node(rt: HostRuntime) -> Result<(), Fail> {
+    let sizes = Sizes::new(1, 64, 24, 1, 50_752).ok_or("sizes")?;
+    let blocks = nested(rt.alloc(), &sizes, 16)?;
+    let path = Path::parse(rt.alloc(), b"/d/d/d/d/d/d/d/d/d/d/d/d/d/d/d/d")?.ok_or("a path")?;
+    let mut taken = Taken::new(rt.alloc());
+    let answer = walk_taking(&sizes, &blocks, &path, &mut taken, 18)?;
+    assert_eq!(rt; answer, Walk::Found { node: 16 });
     Ok(())
 }
 
@@ -337,7 +361,7 @@ fn lowest_node(sizes: &Sizes, taken: &Taken, written: &Written) -> Result<Option
 #[test]
 fn the_lowest_free_node(rt: HostRuntime) -> Result<(), Fail> {
     let sizes = sizes(64)?;
-    let blocks = nested(rt.alloc(), &sizes)?;
+    let blocks = nested(rt.alloc(), &sizes, 4)?;
     let written = Written::new(rt.alloc());
     let mut taken = Taken::new(rt.alloc());
     assert!(rt;
