@@ -1,4 +1,5 @@
 pub mod Looks
+pub mod Named
 pub mod Nodes
 pub mod Placed
 pub mod Put

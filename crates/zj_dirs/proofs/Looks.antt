@@ -1,5 +1,5 @@
 -- What the blocks of a directory say of every made state.
-use Rattle.std.proofs.Common.{◌≡◌, ◌≢◌, ℕ, ◌/◌, ◌%◌, ◌<◌, ◌≤◌, Bool, true, false, cond, ◌&&◌, ltb, leb, lt-ltb, List, Option, Some, None, refl, sym, ap, ◌∙◌, subst, arith, get_or}
+use Rattle.std.proofs.Common.{◌≡◌, ◌≢◌, IsSome, IsTrue, ℕ, ◌/◌, ◌%◌, ◌<◌, ◌≤◌, Bool, true, false, cond, ◌&&◌, ltb, leb, lt-ltb, List, Option, Some, None, refl, sym, ap, ◌∙◌, subst, arith, get_or}
 use Rattle.std.specs.FinMap as map_of
 use Rattle.std.specs.FinMap.{get-empty}
 use Rattle.std.specs.Ordering.{nat_cmp}
@@ -22,18 +22,13 @@ use Rattle.zj_layout.proofs.Named.{named_first, named_nowhere}
 use Rattle.zj_layout.proofs.Sound.{link_place, place_link, none_node}
 use Rattle.zj_layout.proofs.Changed.{item_within}
 use Rattle.zj_dirs.specs.Possible.{IsPossible, overlaid}
+use Rattle.zj_dirs.specs.Looking.{HasOther}
 use Rattle.zj_dirs.specs.Walking.{IsSearched}
 use Rattle.zj_dirs.proofs.Seen.{some_differs, made_content, data_below}
 
 -- with nothing written, a block is as it was found
 pub overlaid_nothing : (found : Entries) (block : ℕ) → overlaid found map_of.empty block ≡ content_under found block
 overlaid_nothing found block = ap (λ o. option_or o (content_under found block)) (get-empty nat_cmp block)
-
--- an entry of another name stands at a place
-pub record HasOther (image : Image) (dir place : ℕ) (name : List ℕ) : Type 0 where
-  pub link : Link
-  pub stands : entry_at image dir place ≡ Some link
-  pub other : link.name ≢ name
 
 -- a node that is a directory is one of the image's
 pub dir_within : (sizes : Numbers) (image : Image) → IsStored sizes image → (dir : ℕ) → (node_of image dir).kind ≡ Dir → dir < sizes.nodes
@@ -82,6 +77,18 @@ module _ (sizes : Numbers) (found : Entries) (written : Changes) (state : State)
   entry_seen place content lt h =
       let kept = for_data place lt in
       ap (λ c. link_in c (place % 16)) (made_content sizes found written state tree p (item_block im dir place) content kept (data_below sizes (item_block im dir place) kept) (ap (overlaid found written) (block_is place) ∙ h))
+
+  -- an entry that is passed over for its name
+  pub other_stands : (name : List ℕ) (place : ℕ) (content : List ℕ) → place < node.size → overlaid found written (get_or node.blocks (place / 16) 0) ≡ Some content
+      → (may : Bool) → ((link : Link) → link_in content (place % 16) ≡ Some link → link.name ≡ name → IsTrue may) → may ≡ false → HasOther im dir place name
+  other_stands name place content lt h may tells is_not = by (entry_at im dir place) refl (s.entry dir place (has_place place lt))
+    where
+      by : (o : Option Link) → entry_at im dir place ≡ o → IsSome o → HasOther im dir place name
+      by None e some = absurd cc
+      by (Some l) e some = record { link = l; stands = e; other = λ same. no (sym is_not ∙ tells l (sym (entry_seen place content lt h) ∙ e) same) }
+        where
+          no : false ≡ true → ⊥
+          no f = cc
 
   pub entry_odd : (place : ℕ) → place < node.size → entry_at im dir place ≡ None → ⊥
   entry_odd place lt none = some_differs (s.entry dir place (has_place place lt)) none

@@ -1,5 +1,5 @@
 -- What a block says of a possible state with new contents put in.
-use Rattle.std.proofs.Common.{◌≡◌, ◌≢◌, ℕ, ◌%◌, ◌<◌, Bool, true, false, cond, ◌&&◌, ltb, leb, lt-ltb, ltb-true, List, [], Option, Some, None, IsSome, refl, sym, ap, ◌∙◌, subst, arith}
+use Rattle.std.proofs.Common.{◌≡◌, ◌≢◌, ℕ, ◌%◌, ◌<◌, Bool, true, false, cond, ◌&&◌, ltb, leb, lt-ltb, ltb-true, List, [], Option, Some, None, IsSome, IsTrue, ◌↔◌, refl, sym, ap, ◌∙◌, subst, arith}
 use Rattle.std.specs.FinMap as map_of
 use Rattle.std.specs.Option.{option_or, unwrap_or}
 use Rattle.zj_block.specs.Lists.{Entries, content_under}
@@ -7,6 +7,7 @@ use Rattle.zj_block.specs.Sizes.{Numbers, first_data}
 use Rattle.zj_tree.specs.Tree.{FileTree}
 use Rattle.zj_layout.specs.declared.fields.Node.{Node}
 use Rattle.zj_layout.specs.Node.{node_in, byte_in, link_in}
+use Rattle.zj_layout.specs.declared.fields.Kind.TheVariants as kinds
 use Rattle.zj_layout.specs.Image.{State, block_at, Image, image_of, node_block, map_block, is_data, free_node, node_of}
 use Rattle.zj_layout.specs.Stored.{IsStored}
 use Rattle.zj_layout.specs.Shows.{Changes, put_blocks}
@@ -59,6 +60,27 @@ module _ (sizes : Numbers) (found : Entries) (written : Changes) (state : State)
 
   pub made_kind : (number : ℕ) (content : List ℕ) (node : Node) → number < sizes.nodes → overlaid found written (node_block sizes number) ≡ Some content → node_in content (number % 8) ≡ Some node → node_of made number ≡ node
   made_kind number content node lt h e = ap (λ o. unwrap_or o free_node) (made_node number content lt h ∙ e)
+
+  module _ (s : IsStored sizes made) (number : ℕ) (content : List ℕ) (lt : number < sizes.nodes) (here : overlaid found written (node_block sizes number) ≡ Some content)
+      (free : Bool) (tells : (node : Node) → node_in content (number % 8) ≡ Some node → IsTrue free ↔ (node.kind ≡ kinds.Free)) where
+    -- a node that is told to be free is, in the made state
+    pub seen_free : free ≡ true → (node_of made number).kind ≡ kinds.Free
+    seen_free is = by (node_in content (number % 8)) refl
+      where
+        by : (o : Option Node) → node_in content (number % 8) ≡ o → (node_of made number).kind ≡ kinds.Free
+        by None e = absurd (made_odd s number content lt here e)
+        by (Some node) e = ap (λ (n : Node). n.kind) (made_kind number content node lt here e) ∙ (tells node e).0 is
+
+    -- and one that isn't, is not
+    pub seen_used : free ≡ false → (node_of made number).kind ≢ kinds.Free
+    seen_used is_not kind = by (node_in content (number % 8)) refl
+      where
+        clash : true ≡ false → ⊥
+        clash e = cc
+
+        by : (o : Option Node) → node_in content (number % 8) ≡ o → ⊥
+        by None e = made_odd s number content lt here e
+        by (Some node) e = clash (sym ((tells node e).1 (ap (λ (n : Node). n.kind) (sym (made_kind number content node lt here e)) ∙ kind)) ∙ is_not)
 
   -- ---- one more new content
 

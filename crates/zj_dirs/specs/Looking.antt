@@ -5,7 +5,8 @@ use Rattle.zj_block.specs.Sizes.{Numbers, map_blocks, node_blocks}
 use Rattle.zj_layout.specs.declared.fields.Kind.TheVariants as kinds
 use Rattle.zj_layout.specs.Graph.{link_at, step}
 use Rattle.zj_layout.specs.Node.{byte_in}
-use Rattle.zj_layout.specs.Image.{Image, graph_of, node_of}
+use Rattle.zj_layout.specs.declared.fields.Link.{Link}
+use Rattle.zj_layout.specs.Image.{Image, entry_at, graph_of, node_of}
 use Rattle.zj_layout.specs.Shows.{Changes}
 use Rattle.zj_dirs.specs.declared.answers.Entry as entries
 use Rattle.zj_dirs.specs.declared.answers.Find as finds
@@ -17,6 +18,12 @@ use Rattle.zj_dirs.specs.Walking.{IsStepBlock}
 pub record StandsAt (image : Image) (dir : ℕ) (name : List ℕ) (place node : ℕ) : Type 0 where
   pub stands : link_at (graph_of image) dir place ≡ Some (record { node = node; name = name })
   pub leads : step (graph_of image) dir name ≡ Some node
+
+-- An entry of another name stands at a place of a directory.
+pub record HasOther (image : Image) (dir place : ℕ) (name : List ℕ) : Type 0 where
+  pub link : Link
+  pub stands : entry_at image dir place ≡ Some link
+  pub other : link.name ≢ name
 
 -- the entry of a name, or that there is none
 abbrev pub IsEntry : Image → ℕ → List ℕ → Option entries.Entry → Type 0

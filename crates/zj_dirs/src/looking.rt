@@ -1,13 +1,14 @@
 //! Looking at nodes and entries, over blocks that were taken, with the written ones put in.
 
-ghost use Rattle.std.specs.Prelude.{◌≡◌, ◌<◌, ◌≤◌, IfOk, IfErr, IfSome, IsTrue, Some};
+ghost use Rattle.std.specs.Prelude.{◌≡◌, ◌<◌, ◌≤◌, IfOk, IfErr, IfNone, IfSome, IsTrue, Some};
 ghost use Rattle.std.specs.Option.{option_copied};
 ghost use Rattle.zj_block.specs.Block.{IsContent};
 ghost use Rattle.zj_layout.specs.declared.fields.Kind.TheVariants as kinds;
 ghost use Rattle.zj_layout.specs.Image.{entry_at, item_block, node_block, node_of};
-ghost use Rattle.zj_layout.specs.Node.{is_node};
+ghost use Rattle.zj_layout.specs.declared.fields.Link.{Link};
+ghost use Rattle.zj_layout.specs.Node.{is_node, link_in};
 ghost use Rattle.zj_layout.specs.Stored.{IsStored};
-ghost use Rattle.zj_dirs.specs.Looking.{FindSays, IsEntry};
+ghost use Rattle.zj_dirs.specs.Looking.{FindSays, HasOther, IsEntry};
 ghost use Rattle.zj_dirs.specs.Possible.{Made, Stops, or_nothing, overlaid};
 ghost use Rattle.zj_dirs.specs.Walking.{IsSearched, IsStepBlock};
 
@@ -123,8 +124,7 @@ pub(crate) fn find_entry(
     ensures stop { IfErr result (Stops sizes.now taken.now (or_nothing (option_copied written.entry)) (λ image block. IsSearched image dir name.now block)) }
 {
     for place in 0..node.size {
-        let link = read_link(sizes, dir, node, place, taken, written)?;
-        if link.name == *name {
+        if let Some(link) = read_named(sizes, dir, node, place, name, taken, written)? {
             return Ok(Some(Entry {
                 place,
                 node: link.node,
@@ -132,6 +132,57 @@ pub(crate) fn find_entry(
         }
     }
     Ok(None)
+}
+
+// The entry at a place of a directory, if it has a name.
+fn read_named(
+    sizes: &Sizes,
+    dir: u32,
+    node: &Node,
+    place: u32,
+    name: &Name,
+    taken: &Taken,
+    written: Option<&Written>,
+) -> Result<Option<Link>, Stop>
+    requires stored { Made sizes.now taken.now (or_nothing (option_copied written)) (IsStored sizes.now) }
+    requires node { Made sizes.now taken.now (or_nothing (option_copied written)) (λ image. image.node dir ≡ Some node.now) }
+    requires directory { node.now.kind ≡ kinds.Dir }
+    requires few { node.now.size ≤ 192 }
+    requires place { place < node.now.size }
+    ensures some { IfOk result (λ found. IfSome found (λ link. (link.name ≡ name.now) × Made sizes.now taken.now (or_nothing (option_copied written.entry)) (λ image. entry_at image dir place ≡ Some link))) }
+    ensures none { IfOk result (λ found. IfNone found (Made sizes.now taken.now (or_nothing (option_copied written.entry)) (λ image. HasOther image dir place name.now))) }
+    ensures stop { IfErr result (Stops sizes.now taken.now (or_nothing (option_copied written.entry)) (λ image block. block ≡ item_block image dir place)) }
+{
+    let block = BlockNo(node.blocks[(place / LINKS_PER_BLOCK) as usize]);
+    let Some(content) = seen(block, taken, written) else {
+        return Err(Stop::Need(block));
+    };
+    let at = place % LINKS_PER_BLOCK;
+    if !may_have_name(content, at, name) {
+        return Ok(None);
+    }
+    let Some(link) = link_at(content, at) else {
+        return Err(Stop::Odd);
+    };
+    if link.name == *name {
+        Ok(Some(link))
+    } else {
+        Ok(None)
+    }
+}
+
+// Whether the entry at a place of a block has the length and the last byte of a name. One that has not has another name, and
+// need not be read.
+fn may_have_name(content: &Block, place: u32, name: &Name) -> bool
+    requires { place < 16 }
+    ensures { (link : Link) → link_in content.now place ≡ Some link → link.name ≡ name.now → IsTrue result }
+{
+    let at = 32 * place as usize;
+    let len = name.as_slice().len();
+    let Some(last) = name.as_slice().last() else {
+        return true;
+    };
+    content.byte(at + 4) == Some(len as u8) && content.byte(at + 5 + len) == Some(*last)
 }
 
 /// Searches a directory for the entry with a name, over `taken` with the blocks of `written` put in.

@@ -1,8 +1,9 @@
 //! The lowest free node and the lowest free block, over blocks that were taken, with the written ones put in.
 
-ghost use Rattle.std.specs.Prelude.{◌≡◌, ◌<◌, ◌≤◌, ◌↔◌, IfOk, IfErr, IfSome, IsTrue};
+ghost use Rattle.std.specs.Prelude.{◌≡◌, ◌<◌, ◌≤◌, ◌↔◌, IfOk, IfErr, IfSome, IsTrue, Some};
 ghost use Rattle.zj_layout.specs.declared.fields.Kind.TheVariants as kinds;
-ghost use Rattle.zj_layout.specs.Node.{byte_in};
+ghost use Rattle.zj_layout.specs.declared.fields.Node.{Node};
+ghost use Rattle.zj_layout.specs.Node.{byte_in, node_in};
 ghost use Rattle.zj_layout.specs.Stored.{IsStored};
 ghost use Rattle.zj_dirs.specs.Looking.{IsLowestBlock, IsLowestNode, IsLowestZero, IsMapSearch, IsNodeSearch};
 ghost use Rattle.zj_dirs.specs.Possible.{Made, Stops};
@@ -10,7 +11,6 @@ ghost use Rattle.zj_dirs.specs.Possible.{Made, Stops};
 use crate::answers::Stop;
 use crate::looking::seen;
 use zj_block::{BLOCKS_PER_MAP_BLOCK, Block, BlockNo, NODES_PER_BLOCK, Sizes, Taken, Written};
-use zj_layout::{Kind, Node, node_at};
 
 /// The lowest free node, if one is free.
 pub fn free_node(sizes: &Sizes, taken: &Taken, written: &Written) -> Result<Option<u32>, Stop>
@@ -24,25 +24,19 @@ pub fn free_node(sizes: &Sizes, taken: &Taken, written: &Written) -> Result<Opti
         let Some(content) = seen(block, taken, Some(written)) else {
             return Err(Stop::Need(block));
         };
-        let Some(node) = node_at(content, number % NODES_PER_BLOCK) else {
-            return Err(Stop::Odd);
-        };
-        if is_free(&node) {
+        if is_free(content, number % NODES_PER_BLOCK) {
             return Ok(Some(number));
         }
     }
     Ok(None)
 }
 
-// Whether a node is free.
-fn is_free(node: &Node) -> bool
-    ensures { IsTrue result ↔ (node.now.kind ≡ kinds.Free) }
+// Whether the node at a place of a block is free, told by the number of its kind alone.
+fn is_free(content: &Block, place: u32) -> bool
+    requires { place < 8 }
+    ensures { (node : Node) → node_in content.now place ≡ Some node → (IsTrue result ↔ (node.kind ≡ kinds.Free)) }
 {
-    match node.kind {
-        Kind::Free => true,
-        Kind::File => false,
-        Kind::Dir => false,
-    }
+    content.get_u32(64 * place as usize) == Some(0)
 }
 
 /// The lowest free block, if one is free.

@@ -1,7 +1,7 @@
 use Rattle.std.proofs.Common.{ℕ, ◌<◌}
 use Rattle.std.specs.Option.{option_copied}
 use Rattle.zj_dirs.specs.Possible.{Made, or_nothing}
-use Rattle.zj_dirs.proofs.Looks.{HasOther}
+use Rattle.zj_dirs.specs.Looking.{HasOther}
 use Rattle.zj_dirs.proofs.looking.find_entry.Given as goal
 
 abbrev pub invariant-loop-place : goal.invariant-loop-place
