@@ -1,8 +1,8 @@
 -- One more written block.
-use Rattle.std.proofs.Common.{◌≡◌, ℕ, Bool, true, false, cond, List, Option, Some, None, IsSome, refl, sym, ap, ◌∙◌, subst}
+use Rattle.std.proofs.Common.{◌≡◌, ℕ, ◌+◌, ◌≤◌, Bool, true, false, cond, List, Option, Some, None, IsSome, refl, sym, ap, ◌∙◌, subst, arith}
 use Rattle.std.specs.Option.{option_or}
 use Rattle.std.specs.FinMap as map_of
-use Rattle.std.specs.FinMap.{get-insert}
+use Rattle.std.specs.FinMap.{get-insert, len-insert}
 use Rattle.std.specs.Cmp.{nat_cmp_total}
 use Rattle.std.specs.Ordering.{nat_cmp, eq_by_cmp}
 use Rattle.zj_block.specs.Lists.{Entries, content_under}
@@ -47,3 +47,11 @@ none_taken found written block all h = by (map_of.get written block) refl
     by : (o : Option (List ℕ)) → map_of.get written block ≡ o → overlaid found written block ≡ None
     by None e = ap (λ o. option_or o (content_under found block)) e ∙ h
     by (Some c) e = absurd (dead (all block (subst IsSome (sym e) refl)) h)
+
+-- one more content makes at most one written block more
+pub one_more : (before after : Changes) (k : ℕ) (c : List ℕ) → after ≡ map_of.insert before k c → map_of.len after ≤ map_of.len before + 1
+one_more before after k c is = by (map_of.contains_key before k) (ap map_of.len is ∙ len-insert nat_cmp_total before k c)
+  where
+    by : (b : Bool) → map_of.len after ≡ cond b (map_of.len before) (map_of.len before + 1) → map_of.len after ≤ map_of.len before + 1
+    by true e = omega (arith, e)
+    by false e = omega (arith, e)

@@ -1,7 +1,8 @@
 //! Adding and removing entries of directories, over blocks that were taken, with the written ones put in.
 
-ghost use Rattle.std.specs.Prelude.{◌≡◌, ◌≢◌, ℕ, ◌-◌, ◌/◌, ◌%◌, ◌<◌, ◌≤◌, IfErr, IfOk, IsTrue, OnOk, Some, slice_index};
+ghost use Rattle.std.specs.Prelude.{◌≡◌, ◌≢◌, ℕ, ◌+◌, ◌-◌, ◌/◌, ◌%◌, ◌<◌, ◌≤◌, IfErr, IfOk, IsTrue, OnOk, Some, slice_index};
 ghost use Rattle.zj_block.specs.Block.{zero_content};
+ghost use Rattle.std.specs.FinMap as map_of;
 ghost use Rattle.zj_layout.specs.declared.fields.Kind.TheVariants as kinds;
 ghost use Rattle.zj_layout.specs.Image.{item_block, node_of};
 ghost use Rattle.zj_layout.specs.Node.{is_node, link_in};
@@ -32,6 +33,7 @@ pub fn place(
     ensures says { IfOk result (PlaceSays sizes.now taken.now written.old written.new dir link.now) }
     ensures taken { AllTaken taken.now written.old → AllTaken taken.now written.new }
     ensures kept { KeepsContents taken.now written.old written.new }
+    ensures few { map_of.len written.new ≤ map_of.len written.old + 3 }
 {
     match append(sizes, dir, link, taken, written) {
         Ok(change) => Ok(change),
@@ -54,6 +56,7 @@ fn append(
     ensures says { IfOk result (PlaceSays sizes.now taken.now written.old written.new dir link.now) }
     ensures taken { AllTaken taken.now written.old → AllTaken taken.now written.new }
     ensures kept { KeepsContents taken.now written.old written.new }
+    ensures few { map_of.len written.new ≤ map_of.len written.old + 3 }
     ensures halt { IfErr result (Halts sizes.now taken.now written.old (λ image block. IsPlaceBlock sizes.now image dir block)) }
 {
     let node = read_dir(sizes, dir, taken, Some(&*written))?;
@@ -85,6 +88,7 @@ fn append_in_last(
     ensures says { IfOk result (PlaceSays sizes.now taken.now written.old written.new dir link.now) }
     ensures taken { AllTaken taken.now written.old → AllTaken taken.now written.new }
     ensures kept { KeepsContents taken.now written.old written.new }
+    ensures few { map_of.len written.new ≤ map_of.len written.old + 2 }
     ensures halt { IfErr result (Halts sizes.now taken.now written.old (λ image block. IsPlaceBlock sizes.now image dir block)) }
 {
     let block = node.blocks[(node.size / LINKS_PER_BLOCK) as usize];
@@ -123,6 +127,7 @@ fn append_in_new(
     ensures says { IfOk result (PlaceSays sizes.now taken.now written.old written.new dir link.now) }
     ensures taken { AllTaken taken.now written.old → AllTaken taken.now written.new }
     ensures kept { KeepsContents taken.now written.old written.new }
+    ensures few { map_of.len written.new ≤ map_of.len written.old + 3 }
     ensures halt { IfErr result (Halts sizes.now taken.now written.old (λ image block. IsPlaceBlock sizes.now image dir block)) }
 {
     let Some(block) = free_block(sizes, taken, written)? else {
@@ -169,6 +174,7 @@ pub fn remove(
     ensures says { IfOk result (RemoveSays sizes.now taken.now written.old written.new dir place) }
     ensures taken { AllTaken taken.now written.old → AllTaken taken.now written.new }
     ensures kept { KeepsContents taken.now written.old written.new }
+    ensures few { map_of.len written.new ≤ map_of.len written.old + 3 }
 {
     match detach(sizes, dir, place, taken, written) {
         Ok(()) => Ok(Change::Done),
@@ -192,6 +198,7 @@ fn detach(
     ensures done { OnOk result (Turns sizes.now taken.now written.old written.new (λ old new. Removes sizes.now old new dir place)) }
     ensures taken { AllTaken taken.now written.old → AllTaken taken.now written.new }
     ensures kept { KeepsContents taken.now written.old written.new }
+    ensures few { map_of.len written.new ≤ map_of.len written.old + 3 }
     ensures halt { IfErr result (Halts sizes.now taken.now written.old (λ image block. IsRemoveBlock sizes.now image dir place block)) }
 {
     let node = read_dir(sizes, dir, taken, Some(&*written))?;
@@ -219,6 +226,7 @@ fn fill_hole(
     ensures done { OnOk result (Turns sizes.now taken.now written.old written.new (λ old new. FillsHole old new dir place (node.now.size - 1))) }
     ensures taken { AllTaken taken.now written.old → AllTaken taken.now written.new }
     ensures kept { KeepsContents taken.now written.old written.new }
+    ensures few { map_of.len written.new ≤ map_of.len written.old + 1 }
     ensures halt { IfErr result (Halts sizes.now taken.now written.old (λ image block. IsRemoveBlock sizes.now image dir place block)) }
 {
     let last = node.size - 1;
@@ -245,6 +253,7 @@ fn cut_last(
     ensures done { OnOk result (Turns sizes.now taken.now written.old written.new (λ old new. dir < sizes.now.nodes → slice_index node.now.blocks ((node.now.size - 1) / 16) < sizes.now.blocks → CutsLast old new dir (node.now.size - 1) node.now)) }
     ensures taken { AllTaken taken.now written.old → AllTaken taken.now written.new }
     ensures kept { KeepsContents taken.now written.old written.new }
+    ensures few { map_of.len written.new ≤ map_of.len written.old + 2 }
     ensures halt { IfErr result (Halts sizes.now taken.now written.old (λ image block. IsCutBlock sizes.now dir (node.now.size - 1) node.now block)) }
 {
     let last = node.size - 1;

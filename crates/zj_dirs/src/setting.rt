@@ -1,6 +1,7 @@
 //! Setting nodes, contents of data blocks and bytes of the map, over blocks that were taken, with the written ones put in.
 
-ghost use Rattle.std.specs.Prelude.{◌≡◌, ◌<◌, IfErr, IsTrue, OnOk, if◌then◌else◌};
+ghost use Rattle.std.specs.Prelude.{◌≡◌, ◌+◌, ◌<◌, ◌≤◌, IfErr, IsTrue, OnOk, if◌then◌else◌};
+ghost use Rattle.std.specs.FinMap as map_of;
 ghost use Rattle.zj_layout.specs.Image.{is_data, map_block, node_block};
 ghost use Rattle.zj_layout.specs.Node.{is_node};
 ghost use Rattle.zj_changes.specs.Tables.{SetsContent, SetsLink, SetsMap, SetsNode};
@@ -23,6 +24,7 @@ pub fn set_node(
     ensures done { OnOk result (Turns sizes.now taken.now written.old written.new (λ old new. number < sizes.now.nodes → SetsNode sizes.now old new number node.now)) }
     ensures taken { AllTaken taken.now written.old → AllTaken taken.now written.new }
     ensures kept { KeepsContents taken.now written.old written.new }
+    ensures few { map_of.len written.new ≤ map_of.len written.old + 1 }
     ensures halt { IfErr result (Halts sizes.now taken.now written.old (λ image block. block ≡ node_block sizes.now number)) }
 {
     let block = BlockNo(sizes.map_blocks() + number / NODES_PER_BLOCK);
@@ -45,6 +47,7 @@ pub fn set_map(
     ensures done { OnOk result (Turns sizes.now taken.now written.old written.new (λ old new. block < sizes.now.blocks → SetsMap sizes.now old new block (if in_use then 1 else 0))) }
     ensures taken { AllTaken taken.now written.old → AllTaken taken.now written.new }
     ensures kept { KeepsContents taken.now written.old written.new }
+    ensures few { map_of.len written.new ≤ map_of.len written.old + 1 }
     ensures halt { IfErr result (Halts sizes.now taken.now written.old (λ image b. b ≡ map_block block)) }
 {
     let of_map = BlockNo(block / BLOCKS_PER_MAP_BLOCK);
@@ -69,6 +72,7 @@ pub(crate) fn set_link(
     ensures done { OnOk result (Turns sizes.now taken.now written.old written.new (λ old new. IsTrue (is_data sizes.now block) → SetsLink sizes.now old new block place link.now)) }
     ensures taken { AllTaken taken.now written.old → AllTaken taken.now written.new }
     ensures kept { KeepsContents taken.now written.old written.new }
+    ensures few { map_of.len written.new ≤ map_of.len written.old + 1 }
     ensures halt { IfErr result (Halts sizes.now taken.now written.old (λ image b. b ≡ block)) }
 {
     let Some(found) = seen(BlockNo(block), taken, Some(&*written)) else {
@@ -90,6 +94,7 @@ pub fn set_content(
     ensures done { OnOk result (Turns sizes.now taken.now written.old written.new (λ old new. IsTrue (is_data sizes.now block) → SetsContent sizes.now old new block content.now)) }
     ensures taken { AllTaken taken.now written.old → AllTaken taken.now written.new }
     ensures kept { KeepsContents taken.now written.old written.new }
+    ensures few { map_of.len written.new ≤ map_of.len written.old + 1 }
     ensures halt { IfErr result (Halts sizes.now taken.now written.old (λ image b. b ≡ block)) }
 {
     let Some(_found) = seen(BlockNo(block), taken, Some(&*written)) else {

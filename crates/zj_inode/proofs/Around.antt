@@ -34,6 +34,7 @@ use Rattle.zj_inode.specs.declared.outcome.Outcome.{Outcome}
 use Rattle.zj_inode.specs.declared.outcome.Outcome.TheVariants as outcomes
 use Rattle.zj_inode.specs.Files.{IsAmong, IsUndone, IsWhole, IsWritten, Overwrites, OverwritesIn, PutsSeen, TrimsAround, blocks_up_to}
 use Rattle.zj_inode.specs.Performs.{IsRefused, IsWrittenOver, Looks, Performs}
+use Rattle.zj_inode.proofs.Fewer.{fewer_trimmed}
 use Rattle.zj_inode.proofs.Trims.{found_free}
 use Rattle.zj_inode.proofs.Writes.{reached, up_to_some}
 
@@ -72,6 +73,7 @@ pub record AddsBlocks (found : Entries) (built : Changes) (blocks : List ℕ) (l
   pub only : (block : ℕ) (content : List ℕ) → map_of.get after block ≡ Some content → Counts found block content ⊎ IsAmong blocks low high block
   pub taken : AllTaken found built → AllTaken found after
   pub range : (k : ℕ) → low ≤ k → k < high → overlaid found built (slice_index blocks k) ≢ None → IsSome (map_of.get after (slice_index blocks k))
+  pub few : map_of.len after ≤ map_of.len built + high
 
 pub adds_none : (found : Entries) (built after : Changes) (blocks : List ℕ) (low : ℕ) → IsTrimmed found built after → MakeTheSame found built after → AddsBlocks found built blocks low low after
 adds_none found built after blocks low t same = record {
@@ -79,13 +81,14 @@ adds_none found built after blocks low t same = record {
   only = λ b c h. inl (t.only b c h).1;
   taken = λ all b some. by all b some (map_of.get after b) refl;
   range = λ k le lt. absurd (omega (arith, le, lt));
+  few = omega (arith, fewer_trimmed found built after t);
 }
   where
     by : AllTaken found built → (b : ℕ) → IsSome (map_of.get after b) → (o : Option (List ℕ)) → map_of.get after b ≡ o → IsSome (content_under found b)
     by all b some None e = absurd (some_differs some e)
     by all b some (Some c) e = all b (subst IsSome (sym (t.only b c e).0) refl)
 
-module _ (found : Entries) (built before after : Changes) (blocks : List ℕ) (low j : ℕ) (a : AddsBlocks found built blocks low j before) (p : PutsSeen found built before after (slice_index blocks j)) (le : low ≤ j) where
+module _ (found : Entries) (built before after : Changes) (blocks : List ℕ) (low j : ℕ) (a : AddsBlocks found built blocks low j before) (p : PutsSeen found built before after (slice_index blocks j)) (le : low ≤ j) (more : map_of.len after ≤ map_of.len before + 1) where
   abbrev turn : ℕ
   turn = slice_index blocks j
 
@@ -102,6 +105,7 @@ module _ (found : Entries) (built before after : Changes) (blocks : List ℕ) (l
     only = λ b c h. only b c h (ℕ_discrete b turn);
     taken = λ all b some. taken all b some (ℕ_discrete b turn);
     range = λ k from lt seen. range k from lt seen (ℕ_discrete (slice_index blocks k) turn);
+    few = omega (arith, more, a.few);
   }
     where
       -- what was built is what is seen

@@ -93,6 +93,7 @@ pub record FreesTo (sizes : Numbers) (found : Entries) (before after : Changes) 
   pub turns : Turns sizes found before after (λ old new. FreesBlocks old new number low high)
   pub taken : AllTaken found before → AllTaken found after
   pub kept : KeepsContents found before after
+  pub few : map_of.len after ≤ map_of.len before + high
 
 -- ---- truncate
 

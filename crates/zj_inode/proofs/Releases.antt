@@ -1,5 +1,6 @@
 -- A node whose blocks are freed one by one.
-use Rattle.std.proofs.Common.{◌≡◌, ℕ, ◌+◌, ◌<◌, Some, sym, ap, ◌∙◌, subst, arith, slice_index}
+use Rattle.std.proofs.Common.{◌≡◌, ℕ, ◌+◌, ◌<◌, ◌≤◌, Some, sym, ap, ◌∙◌, subst, arith, slice_index}
+use Rattle.std.specs.FinMap as map_of
 use Rattle.std.specs.Option.{unwrap_or}
 use native.Mathlib.Decide.{dec_lt}
 use Rattle.zj_block.specs.Lists.{Entries}
@@ -21,12 +22,14 @@ pub record Freeing (sizes : Numbers) (found : Entries) (before after : Changes) 
   pub turns : Turns sizes found before after (λ old new. FreesBlocks old new number 0 count)
   pub taken : AllTaken found before → AllTaken found after
   pub kept : KeepsContents found before after
+  pub few : map_of.len after ≤ map_of.len before + count
 
 pub frees_none : (sizes : Numbers) (found : Entries) (before : Changes) (number : ℕ) → Freeing sizes found before before number 0
 frees_none sizes found before number = record {
   turns = λ state tree p. none_freed (image_of sizes (put_blocks state before)) number 0;
   taken = λ all. all;
   kept = λ b h. h;
+  few = omega arith;
 }
 
 module _ (sizes : Numbers) (image : Image) (s : IsStored sizes image) (number : ℕ) (node : Node) (is : image.node number ≡ Some node) where
@@ -52,8 +55,8 @@ module _ (sizes : Numbers) (image : Image) (s : IsStored sizes image) (number : 
 pub frees_more : (sizes : Numbers) (found : Entries) (before between after : Changes) (number j : ℕ) (node : Node) → Freeing sizes found before between number j
     → ((state : State) (tree : FileTree) → IsPossible sizes found state tree → IsStored sizes (image_of sizes (put_blocks state before))) → ((state : State) (tree : FileTree) → IsPossible sizes found state tree → (image_of sizes (put_blocks state before)).node number ≡ Some node)
     → j < blocks_needed node → Turns sizes found between after (λ old new. slice_index node.blocks j < sizes.blocks → SetsMap sizes old new (slice_index node.blocks j) 0)
-    → (AllTaken found between → AllTaken found after) → KeepsContents found between after → Freeing sizes found before after number (j + 1)
-frees_more sizes found before between after number j node f stored is lt sets taken kept = record {
+    → (AllTaken found between → AllTaken found after) → KeepsContents found between after → map_of.len after ≤ map_of.len between + 1 → Freeing sizes found before after number (j + 1)
+frees_more sizes found before between after number j node f stored is lt sets taken kept few = record {
   turns = λ state tree p.
       let old = image_of sizes (put_blocks state before) in
       let s = stored state tree p in
@@ -62,4 +65,5 @@ frees_more sizes found before between after number j node f stored is lt sets ta
       (sets state tree p (block_below sizes old s number node (is state tree p) j lt)));
   taken = λ all. taken (f.taken all);
   kept = λ b h. f.kept b (kept b h);
+  few = omega (arith, few, f.few);
 }

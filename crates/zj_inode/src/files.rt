@@ -2,6 +2,7 @@
 
 ghost use Rattle.std.specs.Prelude.{◌≡◌, ◌≢◌, ℕ, ◌+◌, ◌<◌, ◌≤◌, IfErr, IfOk, IsTrue, OnOk, Some, None, length, slice_index};
 ghost use Rattle.std.specs.FinMap as map_of;
+ghost use Rattle.zj_block.specs.declared.sizes.TheConstants.{MAX_RECORD_BLOCKS};
 ghost use Rattle.zj_tree.specs.declared.call.Call.TheVariants as calls;
 ghost use Rattle.zj_tree.specs.Tree.{blocks_for};
 ghost use Rattle.zj_layout.specs.declared.fields.Kind.TheVariants as kinds;
@@ -11,7 +12,7 @@ ghost use Rattle.zj_layout.specs.Stored.{IsStored};
 ghost use Rattle.zj_changes.specs.Resized.{FreesBlocks, PutsBytes};
 ghost use Rattle.zj_dirs.specs.Looking.{IsLowestBlock};
 ghost use Rattle.zj_dirs.specs.Possible.{AllTaken, Halts, KeepsContents, Made, Turns, overlaid};
-ghost use Rattle.zj_inode.specs.Answering.{Builds, CallStops};
+ghost use Rattle.zj_inode.specs.Answering.{Builds, CallStops, count_written};
 ghost use Rattle.zj_inode.specs.Files.{Cuts, IsTruncateBlock, IsMapOf, IsWhole, Overwrites, PutsInto, PutsSeen, TakeBlockStops, TakesBlock, TrimsAround, WriteStops, WritesFirst, blocks_up_to};
 ghost use Rattle.zj_inode.specs.Performs.{OutcomeSays};
 
@@ -44,6 +45,7 @@ pub(crate) fn truncate(
     requires fresh { built.old ≡ map_of.empty }
     ensures done { IfOk result (Builds sizes.now taken.now built.new (calls.Truncate path.now size)) }
     ensures taken { AllTaken taken.now built.old → AllTaken taken.now built.new }
+    ensures few { map_of.len built.new ≤ map_of.len built.old + 13 }
     ensures stop { IfErr result (CallStops sizes.now taken.now (calls.Truncate path.now size)) }
 {
     let file = go_to_file(sizes, path, taken)?;
@@ -72,6 +74,7 @@ fn cut(
     ensures done { OnOk result (Turns sizes.now taken.now built.old built.new (λ old new. Cuts sizes.now old new file.now.number size)) }
     ensures taken { AllTaken taken.now built.old → AllTaken taken.now built.new }
     ensures kept { KeepsContents taken.now built.old built.new }
+    ensures few { map_of.len built.new ≤ map_of.len built.old + 13 }
     ensures halt { IfErr result (Halts sizes.now taken.now built.old (λ image block. IsTruncateBlock sizes.now image file.now.number size block)) }
 {
     let len = BLOCK_LEN as u32;
@@ -135,6 +138,7 @@ pub(crate) fn free_blocks(
     ensures done { OnOk result (Turns sizes.now taken.now built.old built.new (λ old new. FreesBlocks old new of.now.number low high)) }
     ensures taken { AllTaken taken.now built.old → AllTaken taken.now built.new }
     ensures kept { KeepsContents taken.now built.old built.new }
+    ensures few { map_of.len built.new ≤ map_of.len built.old + 12 }
     ensures halt { IfErr result (Halts sizes.now taken.now built.old (λ image block. IsMapOf image of.now.number low high block)) }
 {
     for j in low..high {
@@ -154,6 +158,7 @@ pub(crate) fn write(
 ) -> Result<Outcome, AllocError>
     ensures says { IfOk result (OutcomeSays sizes.now taken.now (calls.Write path.now at bytes.now)) }
     ensures whole { IfOk result (IsWhole sizes.now taken.now path.now at (length bytes.now)) }
+    ensures few { IfOk result (λ outcome. count_written outcome ≤ MAX_RECORD_BLOCKS) }
 {
     let mut built = Written::new(alloc);
     let bytes = bytes.as_slice();
@@ -182,7 +187,8 @@ fn trim_around(
     requires all { AllTaken taken.now built.now }
     requires ordered { low ≤ high }
     requires few { high ≤ 12 }
-    ensures { IfOk result (TrimsAround taken.now built.now blocks.now low high) }
+    ensures trims { IfOk result (TrimsAround taken.now built.now blocks.now low high) }
+    ensures few { IfOk result (λ written. map_of.len written ≤ map_of.len built.now + 12) }
 {
     let mut written = trim(alloc, taken, built)?;
     for j in low..high {
@@ -198,7 +204,8 @@ fn put_seen(
     built: &Written,
     written: &mut Written,
 ) -> Result<(), AllocError>
-    ensures { OnOk result (PutsSeen taken.now built.now written.old written.new block.0) }
+    ensures puts { OnOk result (PutsSeen taken.now built.now written.old written.new block.0) }
+    ensures few { map_of.len written.new ≤ map_of.len written.old + 1 }
 {
     let Some(content) = seen(block, taken, Some(built)) else {
         return Ok(());
@@ -220,6 +227,7 @@ fn overwrite(
     ensures done { IfOk result (λ blocks. Overwrites sizes.now taken.now built.new path.now at bytes.now blocks) }
     ensures fits { OnOk result (at + length bytes.now ≤ 6144) }
     ensures taken { AllTaken taken.now built.old → AllTaken taken.now built.new }
+    ensures few { map_of.len built.new ≤ map_of.len built.old + 25 }
     ensures stop { IfErr result (CallStops sizes.now taken.now (calls.Write path.now at bytes.now)) }
 {
     let file = go_to_file(sizes, path, taken)?;
@@ -264,6 +272,7 @@ fn write_blocks(
     ensures done { IfOk result (λ blocks. WritesFirst sizes.now taken.now built.old built.new file.now.number at (blocks_needed file.now.node) bytes.now blocks (blocks_up_to at (length bytes.now))) }
     ensures taken { AllTaken taken.now built.old → AllTaken taken.now built.new }
     ensures kept { KeepsContents taken.now built.old built.new }
+    ensures few { map_of.len built.new ≤ map_of.len built.old + 24 }
     ensures stop { IfErr result (WriteStops sizes.now taken.now built.old file.now.number at (at + length bytes.now)) }
 {
     let len = BLOCK_LEN as u32;
@@ -314,6 +323,7 @@ fn write_old(
     ensures done { OnOk result (Turns sizes.now taken.now built.old built.new (λ old new. IsTrue (is_data sizes.now block) → PutsInto sizes.now old new block first at bytes.now)) }
     ensures taken { AllTaken taken.now built.old → AllTaken taken.now built.new }
     ensures kept { KeepsContents taken.now built.old built.new }
+    ensures few { map_of.len built.new ≤ map_of.len built.old + 1 }
     ensures seen { OnOk result (overlaid taken.now built.old block ≢ None) }
     ensures halt { IfErr result (Halts sizes.now taken.now built.old (λ image b. b ≡ block)) }
 {
@@ -342,6 +352,7 @@ fn write_new(
     ensures named { IfOk result (λ block. block ≢ 0) }
     ensures taken { AllTaken taken.now built.old → AllTaken taken.now built.new }
     ensures kept { KeepsContents taken.now built.old built.new }
+    ensures few { map_of.len built.new ≤ map_of.len built.old + 2 }
     ensures seen { IfOk result (λ block. overlaid taken.now built.old block ≢ None) }
     ensures stop { IfErr result (TakeBlockStops sizes.now taken.now built.old) }
 {

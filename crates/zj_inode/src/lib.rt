@@ -15,9 +15,10 @@
 //!
 //! How a call is put together: each has a function that goes through its steps in the order of its reasons, leaves by `?`
 //! with what stops it (`Stopped`: a block that is needed, a refusal, Odd, or want of memory), and builds new contents as it
-//! goes. Its three clauses are `done` (the built contents answer the call: `Builds`), `taken` (each was taken) and `stop`
-//! (what stops it is the call's own: `CallStops`). `finish` makes the outcome of that, and leaves out contents that come
-//! out as they were found, so it has no more than were built (`few`).
+//! goes. Its four clauses are `done` (the built contents answer the call: `Builds`), `taken` (each was taken), `few` (how many
+//! it builds at most) and `stop` (what stops it is the call's own: `CallStops`). `finish` makes the outcome of that, and
+//! leaves out contents that come out as they were found, so it has no more than were built. So a call has room in one
+//! record: a write has at most 37 new contents, any other call 17 (`few`).
 //!
 //! - `finding`: `go_to_node`, `go_to_dir`, `go_to_file` and `go_to_entry` find what names lead to, `entry_of` searches a
 //!   directory.

@@ -1,6 +1,6 @@
 //! The calls that make a node: mkdir and create.
 
-ghost use Rattle.std.specs.Prelude.{◌≡◌, ◌≢◌, IfErr, IfOk, IsTrue, OnOk};
+ghost use Rattle.std.specs.Prelude.{◌≡◌, ◌≢◌, ◌+◌, ◌≤◌, IfErr, IfOk, IsTrue, OnOk};
 ghost use Rattle.std.specs.FinMap as map_of;
 ghost use Rattle.zj_layout.specs.declared.fields.Kind.TheVariants as kinds;
 ghost use Rattle.zj_layout.specs.Image.{node_of};
@@ -35,6 +35,7 @@ pub(crate) fn make_entry(
     requires fresh { built.old ≡ map_of.empty }
     ensures done { IfOk result (Builds sizes.now taken.now built.new (making kind path.now)) }
     ensures taken { AllTaken taken.now built.old → AllTaken taken.now built.new }
+    ensures few { map_of.len built.new ≤ map_of.len built.old + 4 }
     ensures stop { IfErr result (CallStops sizes.now taken.now (making kind path.now)) }
 {
     let Some((front, name)) = split(path) else {
@@ -64,6 +65,7 @@ fn take_node(sizes: &Sizes, kind: Kind, taken: &Taken, built: &mut Written) -> R
     ensures done { IfOk result (λ number. Turns sizes.now taken.now built.old built.new (λ old new. TakesNode sizes.now old new kind number)) }
     ensures taken { AllTaken taken.now built.old → AllTaken taken.now built.new }
     ensures kept { KeepsContents taken.now built.old built.new }
+    ensures few { map_of.len built.new ≤ map_of.len built.old + 1 }
     ensures stop { IfErr result (TakeStops sizes.now taken.now) }
 {
     let Some(number) = free_node(sizes, taken, built)? else {
@@ -98,6 +100,7 @@ pub(crate) fn add_entry(
     ensures done { OnOk result (Turns sizes.now taken.now built.old built.new (λ old new. Places sizes.now old new dir link.now)) }
     ensures taken { AllTaken taken.now built.old → AllTaken taken.now built.new }
     ensures kept { KeepsContents taken.now built.old built.new }
+    ensures few { map_of.len built.new ≤ map_of.len built.old + 3 }
     ensures stop { IfErr result (AddStops sizes.now taken.now built.old dir) }
 {
     match place(sizes, dir, link, taken, built)? {

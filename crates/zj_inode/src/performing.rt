@@ -1,9 +1,10 @@
 //! Performing a call over blocks that were taken.
 
-ghost use Rattle.std.specs.Prelude.{◌≡◌, IfErr, IfOk};
+ghost use Rattle.std.specs.Prelude.{◌≡◌, ◌+◌, ◌≤◌, IfErr, IfOk};
 ghost use Rattle.std.specs.FinMap as map_of;
+ghost use Rattle.zj_block.specs.declared.sizes.TheConstants.{MAX_RECORD_BLOCKS};
 ghost use Rattle.zj_dirs.specs.Possible.{AllTaken};
-ghost use Rattle.zj_inode.specs.Answering.{Builds, CallStops, IsAnswered};
+ghost use Rattle.zj_inode.specs.Answering.{Builds, CallStops, IsAnswered, count_written};
 ghost use Rattle.zj_inode.specs.Performs.{OutcomeSays};
 
 use crate::files::{truncate, write};
@@ -20,7 +21,7 @@ use zj_layout::Kind;
 use zj_tree::{Call, Reply};
 
 /// Performs a call over the blocks that were taken, or tells which block it needs besides. It writes nothing: the new
-/// contents are in the outcome.
+/// contents are in the outcome, no more than one record holds.
 pub fn perform(
     alloc: Global,
     sizes: &Sizes,
@@ -28,6 +29,7 @@ pub fn perform(
     taken: &Taken,
 ) -> Result<Outcome, AllocError>
     ensures says { IfOk result (OutcomeSays sizes.now taken.now call.now) }
+    ensures few { IfOk result (λ outcome. count_written outcome ≤ MAX_RECORD_BLOCKS) }
 {
     if let Call::Write { path, at, bytes } = call {
         return write(alloc, sizes, path.as_slice(), *at, bytes, taken);
@@ -49,6 +51,7 @@ fn answer(
     requires fresh { built.old ≡ map_of.empty }
     ensures done { IfOk result (Builds sizes.now taken.now built.new call.now) }
     ensures taken { AllTaken taken.now built.old → AllTaken taken.now built.new }
+    ensures few { map_of.len built.new ≤ map_of.len built.old + 17 }
     ensures stop { IfErr result (CallStops sizes.now taken.now call.now) }
 {
     match call {

@@ -1,6 +1,6 @@
 //! The calls that remove a node: unlink and rmdir.
 
-ghost use Rattle.std.specs.Prelude.{◌≡◌, ◌≤◌, ◌<◌, IfErr, IfOk, IsTrue, OnOk, Some, [], ◌∷◌, ◌++◌, List, ℕ};
+ghost use Rattle.std.specs.Prelude.{◌≡◌, ◌+◌, ◌≤◌, ◌<◌, IfErr, IfOk, IsTrue, OnOk, Some, [], ◌∷◌, ◌++◌, List, ℕ};
 ghost use Rattle.std.specs.FinMap as map_of;
 ghost use Rattle.zj_tree.specs.declared.call.Call.TheVariants as calls;
 ghost use Rattle.zj_layout.specs.declared.fields.Kind.TheVariants as kinds;
@@ -34,6 +34,7 @@ pub(crate) fn unlink(
     requires fresh { built.old ≡ map_of.empty }
     ensures done { IfOk result (Builds sizes.now taken.now built.new (calls.Unlink path.now)) }
     ensures taken { AllTaken taken.now built.old → AllTaken taken.now built.new }
+    ensures few { map_of.len built.new ≤ map_of.len built.old + 16 }
     ensures stop { IfErr result (CallStops sizes.now taken.now (calls.Unlink path.now)) }
 {
     let Some((front, name)) = split(path) else {
@@ -57,6 +58,7 @@ pub(crate) fn rmdir(
     requires fresh { built.old ≡ map_of.empty }
     ensures done { IfOk result (Builds sizes.now taken.now built.new (calls.Rmdir path.now)) }
     ensures taken { AllTaken taken.now built.old → AllTaken taken.now built.new }
+    ensures few { map_of.len built.new ≤ map_of.len built.old + 16 }
     ensures stop { IfErr result (CallStops sizes.now taken.now (calls.Rmdir path.now)) }
 {
     let Some((front, name)) = split(path) else {
@@ -88,6 +90,7 @@ fn detach(
     requires leaf { IsLeafNode target.now.node }
     ensures done { IfOk result (Detaches sizes.now taken.now built.new target.now) }
     ensures taken { AllTaken taken.now built.old → AllTaken taken.now built.new }
+    ensures few { map_of.len built.new ≤ map_of.len built.old + 16 }
     ensures stop { IfErr result (DetachStops sizes.now taken.now target.now) }
 {
     remove_at(sizes, target.dir, target.place, taken, built)?;
@@ -110,6 +113,7 @@ pub(crate) fn remove_at(
     ensures done { OnOk result (Turns sizes.now taken.now built.old built.new (λ old new. Removes sizes.now old new dir place)) }
     ensures taken { AllTaken taken.now built.old → AllTaken taken.now built.new }
     ensures kept { KeepsContents taken.now built.old built.new }
+    ensures few { map_of.len built.new ≤ map_of.len built.old + 3 }
     ensures stop { IfErr result (RemoveStops sizes.now taken.now built.old dir place) }
 {
     match remove(sizes, dir, place, taken, built)? {
@@ -135,6 +139,7 @@ pub(crate) fn release(
     ensures done { OnOk result (Turns sizes.now taken.now built.old built.new (λ old new. FreesNode old new number)) }
     ensures taken { AllTaken taken.now built.old → AllTaken taken.now built.new }
     ensures kept { KeepsContents taken.now built.old built.new }
+    ensures few { map_of.len built.new ≤ map_of.len built.old + 13 }
     ensures stop { IfErr result (ReleaseStops sizes.now taken.now built.old number) }
 {
     for j in 0..block_count(node) {

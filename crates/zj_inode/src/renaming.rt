@@ -1,6 +1,6 @@
 //! The call that moves an entry: rename.
 
-ghost use Rattle.std.specs.Prelude.{◌≡◌, ◌↔◌, ℕ, ◌<◌, ◌≤◌, List, IfErr, IfOk, IsTrue, None, OnOk, Some};
+ghost use Rattle.std.specs.Prelude.{◌≡◌, ◌↔◌, ℕ, ◌+◌, ◌<◌, ◌≤◌, List, IfErr, IfOk, IsTrue, None, OnOk, Some};
 ghost use Rattle.std.specs.FinMap as map_of;
 ghost use Rattle.zj_tree.specs.declared.call.Call.TheVariants as calls;
 ghost use Rattle.zj_tree.specs.declared.call.Refusal.TheVariants as refusals;
@@ -39,6 +39,7 @@ pub(crate) fn rename(
     requires fresh { built.old ≡ map_of.empty }
     ensures done { IfOk result (Builds sizes.now taken.now built.new (calls.Rename from.now to.now)) }
     ensures taken { AllTaken taken.now built.old → AllTaken taken.now built.new }
+    ensures few { map_of.len built.new ≤ map_of.len built.old + 17 }
     ensures stop { IfErr result (CallStops sizes.now taken.now (calls.Rename from.now to.now)) }
 {
     let Some((front, name)) = split(from) else {
@@ -115,6 +116,7 @@ fn move_to(
     requires absent { Always sizes.now taken.now (λ image. step (graph_of image) to_dir link.now.name ≡ None) }
     ensures done { OnOk result (Turns sizes.now taken.now built.old built.new (λ before after. Renames sizes.now before after old.now.dir old.now.place to_dir link.now)) }
     ensures taken { AllTaken taken.now built.old → AllTaken taken.now built.new }
+    ensures few { map_of.len built.new ≤ map_of.len built.old + 6 }
     ensures stop { (from to : List (List ℕ)) → Moves sizes.now taken.now from to old.now to_dir link.now → IfErr result (CallStops sizes.now taken.now (calls.Rename from to)) }
 {
     remove_at(sizes, old.dir, old.place, taken, built)?;
@@ -140,6 +142,7 @@ fn move_over(
     ensures matches { OnOk result (Always sizes.now taken.now (λ image. Matches image old.now.number onto.now.node)) }
     ensures done { OnOk result (Turns sizes.now taken.now built.old built.new (λ before after. RenamesOver sizes.now before after old.now.dir old.now.place to_dir.now.number onto.now.place link.now onto.now.node)) }
     ensures taken { AllTaken taken.now built.old → AllTaken taken.now built.new }
+    ensures few { map_of.len built.new ≤ map_of.len built.old + 17 }
     ensures stop { (from to : List (List ℕ)) → Moves sizes.now taken.now from to old.now to_dir.now.number link.now → IfErr result (CallStops sizes.now taken.now (calls.Rename from to)) }
 {
     let node = read_node(sizes, onto.node, taken, None)?;
@@ -197,6 +200,7 @@ fn replace(
     ensures done { OnOk result (Turns sizes.now taken.now built.old built.new (λ before after. ReplacesEntry sizes.now before after dir.now.number place link.now)) }
     ensures taken { AllTaken taken.now built.old → AllTaken taken.now built.new }
     ensures kept { KeepsContents taken.now built.old built.new }
+    ensures few { map_of.len built.new ≤ map_of.len built.old + 1 }
     ensures halt { IfErr result (Halts sizes.now taken.now built.old (λ image block. block ≡ item_block image dir.now.number place)) }
 {
     if place >= dir.node.size {

@@ -27,6 +27,7 @@ loop-j-preserved c =
           (c.in_ok-set_map.ensures.done state tree p (block_below sizes old s of.number of.node is j (omega (arith, lt, c.requires.within)))));
       taken = λ all. c.set_map.ensures.taken (step.taken all);
       kept = λ b h. step.kept b (c.set_map.ensures.kept b h);
+      few = omega (arith, step.few, c.set_map.ensures.few);
     }
 
 pub returns-clause-done : goal.returns-clause-done

@@ -8,9 +8,9 @@ pub loop-j-init : goal.loop-j-init
 loop-j-init c = adds_none c.args.taken.now c.args.built.now c.in_ok-written.written c.args.blocks.now c.args.low c.in_ok-written.ensures.trimmed c.in_ok-written.ensures.same
 
 pub loop-j-preserved : goal.loop-j-preserved
-loop-j-preserved c = adds_more c.args.taken.now c.args.built.now c.loop-j.written c.put_seen.new.written c.args.blocks.now c.args.low c.loop-j.j c.loop-j.invariant c.in_ok-put_seen.ensures c.loop-j.auto.j
+loop-j-preserved c = adds_more c.args.taken.now c.args.built.now c.loop-j.written c.put_seen.new.written c.args.blocks.now c.args.low c.loop-j.j c.loop-j.invariant c.in_ok-put_seen.ensures.puts c.loop-j.auto.j c.in_ok-put_seen.ensures.few
 
-pub returns : goal.returns
-returns c =
+pub returns-clause-trims : goal.returns-clause-trims
+returns-clause-trims c =
     subst (λ n. TrimsAround c.args.taken.now c.args.built.now c.args.blocks.now c.args.low n c.loop-j.written) (omega (arith, c.requires.ordered, c.loop-j.auto.j-end, c.loop-j-test.false))
     (adds_all c.args.taken.now c.args.built.now c.loop-j.written c.args.blocks.now c.args.low c.loop-j.j c.loop-j.invariant)

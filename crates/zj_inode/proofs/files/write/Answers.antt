@@ -1,5 +1,8 @@
 -- What is left of the built contents, with the range's, performs the call.
-use Rattle.std.proofs.Common.{ℕ, ◌/◌, List, length, subst, ap, ◌∙◌, arith}
+use Rattle.std.proofs.Common.{◌≡◌, ℕ, ◌/◌, List, length, subst, ap, ◌∙◌, arith}
+use Rattle.std.specs.FinMap as map_of
+use Rattle.std.specs.FinMap.{len-empty}
+use Rattle.std.specs.Ordering.{nat_cmp}
 use Rattle.std.proofs.lemmas.Result.{IfOk-weaker}
 use Rattle.zj_tree.specs.declared.call.Call.TheVariants.{Write}
 use Rattle.zj_inode.specs.Answering.{CallStops}
@@ -21,7 +24,7 @@ trims : (c : goal.After-drop-built-inside-in-Ok) → TrimsAround c.args.taken.no
 trims c =
     subst (λ n. TrimsAround c.args.taken.now c.overwrite.new.built c.in-Ok.blocks (c.args.at / 512) n c.in_ok-trim_around-in-Ok.field-0)
     (c.end_block-high.ensures ∙ ap (λ (bs : List ℕ). blocks_up_to c.args.at (length bs)) c.as_slice-bytes.ensures)
-    c.in_ok-trim_around-in-Ok.ensures
+    c.in_ok-trim_around-in-Ok.ensures.trims
 
 writes : (c : goal.After-drop-built-inside-in-Ok) → Overwrites c.args.sizes.now c.args.taken.now c.overwrite.new.built c.args.path.now c.args.at c.args.bytes.now c.in-Ok.blocks
 writes c = subst (λ bs. Overwrites c.args.sizes.now c.args.taken.now c.overwrite.new.built c.args.path.now c.args.at bs c.in-Ok.blocks) c.as_slice-bytes.ensures c.in-Ok.ensures.done
@@ -42,3 +45,8 @@ returns-clause-says c =
 
 pub returns-clause-whole : goal.returns-clause-whole
 returns-clause-whole c = IfOk-weaker c.stop.result _ _ (λ o h. undone_whole c.args.sizes.now c.args.taken.now c.args.path.now c.args.at (length c.args.bytes.now) o h) c.stop.ensures.undone
+
+pub returns-in-Ok-clause-few : goal.returns-in-Ok-clause-few
+returns-in-Ok-clause-few c =
+    let none : map_of.len c.new-built.result ≡ 0 = ap map_of.len c.new-built.ensures ∙ len-empty nat_cmp (List ℕ) in
+    omega (arith, none, c.overwrite.ensures.few, c.in_ok-trim_around-in-Ok.ensures.few)

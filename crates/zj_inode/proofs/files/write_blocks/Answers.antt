@@ -37,6 +37,7 @@ loop-j-init c =
       many = many;
       taken = λ all. all;
       kept = λ b h. h;
+      few = omega arith;
     }
 
 pub returns-in_err-write_old-clause-stop : goal.returns-in_err-write_old-clause-stop
@@ -110,6 +111,7 @@ loop-j-preserved c =
         many = c.loop-j.invariant.many;
         taken = λ all. w.in_ok-write_old.ensures.taken (c.loop-j.invariant.taken all);
         kept = λ b h. c.loop-j.invariant.kept b (w.in_ok-write_old.ensures.kept b h);
+        few = omega (arith, c.loop-j.invariant.few, w.in_ok-write_old.ensures.few);
       }
       | else-j-had+in_ok-blocks w ↦ rw (w.built-is, w.blocks-is) record {
         written = first_new sizes c.args.taken.now c.args.built.now c.loop-j.built w.write_new.new.built file.number c.args.at (blocks_needed file.node) c.args.bytes.now blocks j c.loop-j.invariant.written w.in_ok-blocks.ensures.kept
@@ -128,6 +130,7 @@ loop-j-preserved c =
         many = length-set blocks j w.in_ok-blocks.field-0 ∙ c.loop-j.invariant.many;
         taken = λ all. w.in_ok-blocks.ensures.taken (c.loop-j.invariant.taken all);
         kept = λ b h. c.loop-j.invariant.kept b (w.in_ok-blocks.ensures.kept b h);
+        few = omega (arith, c.loop-j.invariant.few, w.in_ok-blocks.ensures.few);
       }
     ]
 

@@ -1,4 +1,5 @@
-use Rattle.std.proofs.Common.{◌≡◌, length}
+use Rattle.std.proofs.Common.{◌≡◌, ◌+◌, ◌*◌, ◌≤◌, length}
+use Rattle.std.specs.FinMap as map_of
 use Rattle.zj_layout.specs.Node.{blocks_needed}
 use Rattle.zj_dirs.specs.Possible.{AllTaken, KeepsContents}
 use Rattle.zj_inode.specs.Files.{WritesFirst}
@@ -10,4 +11,5 @@ invariant-loop-j l = record {
   many : length l.blocks ≡ 12;
   taken : AllTaken l.taken l.fn.built → AllTaken l.taken l.built;
   kept : KeepsContents l.taken l.fn.built l.built;
+  few : map_of.len l.built ≤ map_of.len l.fn.built + 2 * l.j;
 }

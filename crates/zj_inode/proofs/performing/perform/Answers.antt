@@ -1,5 +1,9 @@
 -- Nothing is built before the call, and write has been performed.
-use Rattle.std.proofs.Common.{◌≡◌, ℕ, List, refl}
+use Rattle.std.proofs.Common.{◌≡◌, ℕ, List, refl, ap, ◌∙◌, arith}
+use Rattle.std.specs.FinMap as map_of
+use Rattle.std.specs.FinMap.{len-empty}
+use Rattle.std.specs.Ordering.{nat_cmp}
+use Rattle.std.proofs.lemmas.Result.{IfOk-weaker}
 use Rattle.zj_tree.specs.declared.call.Call.{Call}
 use Rattle.zj_tree.specs.declared.call.Call.TheVariants as calls
 use Rattle.zj_inode.specs.Answering.{IsAnswered}
@@ -24,3 +28,8 @@ answer-answered-requires-clause-known c = answered c.args.call.now c.in_default.
 
 pub finish-requires : goal.finish-requires
 finish-requires c = c.answer-answered.ensures.taken (none_taken c.args.taken.now c.new-built.result c.new-built.ensures)
+
+pub returns-clause-few : goal.returns-clause-few
+returns-clause-few c =
+    let none : map_of.len c.new-built.result ≡ 0 = ap map_of.len c.new-built.ensures ∙ len-empty nat_cmp (List ℕ) in
+    IfOk-weaker c.finish.result _ _ (λ outcome few. omega (arith, few, none, c.answer-answered.ensures.few)) c.finish.ensures.few

@@ -14,7 +14,7 @@ use Rattle.zj_inode.proofs.removing.release.Goals as goal
 pub loop-j-preserved : goal.loop-j-preserved
 loop-j-preserved c =
     frees_more c.args.sizes.now c.args.taken.now c.args.built.now c.loop-j.built c.set_map.new.written c.args.number c.loop-j.j c.args.node.now c.loop-j.invariant c.requires.stored c.requires.node
-    (omega (arith, c.loop-j-test.true, c.block_count-j-end.ensures.value)) c.in_ok-set_map.ensures.done c.in_ok-set_map.ensures.taken c.in_ok-set_map.ensures.kept
+    (omega (arith, c.loop-j-test.true, c.block_count-j-end.ensures.value)) c.in_ok-set_map.ensures.done c.in_ok-set_map.ensures.taken c.in_ok-set_map.ensures.kept c.in_ok-set_map.ensures.few
 
 pub returns-in_err-set_node-clause-stop : goal.returns-in_err-set_node-clause-stop
 returns-in_err-set_node-clause-stop c =
