@@ -133,6 +133,16 @@ def read(program, command, what, files, want):
         return failed + compare(f"{command}, {what}, the files", contents(folder) == files, True)
 
 
+def close_output(program, command):
+    """Runs a command with its standard output closed: nothing reaches a file of the image."""
+    with tempfile.TemporaryDirectory() as folder:
+        run(program, folder, *MAKE)
+        done = subprocess.run([program, command], cwd=folder, input=b"0 list /\n", stderr=subprocess.PIPE,
+                              preexec_fn=lambda: os.close(1))
+        failed = compare(f"{command}, a closed output", (done.returncode, done.stderr), (7, b"zj: output\n"))
+        return failed + compare(f"{command}, a closed output, the files", contents(folder) == NEW, True)
+
+
 def refuse(program, lines, place):
     """Plays a script that is refused."""
     with tempfile.TemporaryDirectory() as folder:
@@ -147,6 +157,7 @@ def main(program):
     for command, images in (("check", CHECKED), ("play", PLAYED)):
         failed += sum(read(program, command, *image) for image in images)
     failed += sum(refuse(program, *script) for script in REFUSED)
+    failed += sum(close_output(program, command) for command in ("play", "check"))
     with tempfile.TemporaryDirectory() as folder:
         os.symlink("home", os.path.join(folder, "home"))
         failed += compare("a home that can't be opened", run(program, folder, "check"), (4, "", "zj: device home\n"))

@@ -8,7 +8,7 @@ mod usage;
 use place::tell_place;
 use recorded::Recorded;
 use std::process::ExitCode;
-use std::{env, io};
+use std::{env, fs, io};
 use zj_cli::{Fault, Status, zj_tool};
 use zj_dev::{FolderShelf, InSource, OutSink};
 
@@ -19,6 +19,7 @@ fn main(rt: HostRuntime) -> io::Result<ExitCode> {
         print!(rt; "{text}")?;
         return Ok(ExitCode::SUCCESS);
     }
+    let _guards = [guard(&rt), guard(&rt), guard(&rt)];
     let mut shelf = FolderShelf::new(&rt);
     let mut input = Recorded::new(rt.alloc(), InSource::new(rt.reader()));
     let mut out = OutSink::new(io::writer(&rt));
@@ -32,6 +33,12 @@ fn main(rt: HostRuntime) -> io::Result<ExitCode> {
     // A fault that can't be told changes nothing of the status.
     let _ = tell_fault(&rt, &status, input.given());
     Ok(ExitCode::from(status.code()))
+}
+
+/// Takes the number of a standard stream that is closed, if one is. Else the system would give it to a file of the image, and
+/// what is written to the stream would reach that file; so it fails.
+fn guard(rt: &HostRuntime) -> Option<impl Drop> {
+    fs::open(rt, "/").ok()
 }
 
 /// Tells a fault on standard error; of a script also the place, where the input is known.

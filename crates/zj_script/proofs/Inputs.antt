@@ -219,9 +219,22 @@ pub ends_front : (set : Acts) (cores : ℕ) (input : List ℕ) (cut : Bool) (lef
 ends_front set cores input cut left number lines fault h behind =
     record {
       front = h.before;
-      is_front = record { after = left; whole = h.whole; accepted = h.accepted; texts = h.numbered; can_stand = h.can_stand };
+      is_front = record {
+        after = left;
+        whole = h.whole;
+        few = omega (arith, h.few, h.number_is);
+        uncut = uncut (is_cut input) left (λ is. h.some (h.cut_is ∙ is));
+        accepted = h.accepted;
+        texts = h.numbered;
+        can_stand = h.can_stand;
+      };
       behind = subst (λ (count : ℕ). IsBehind count fault) h.number_is behind;
     }
+  where
+    uncut : (cut : Bool) (left : List (List ℕ)) → (cut ≡ true → left ≢ []) → (cut && none_left left) ≡ false
+    uncut false left some = refl
+    uncut true [] some = absurd (some refl refl)
+    uncut true (text ∷ left) some = refl
 
 -- behind all lines
 pub front_whole : (set : Acts) (cores : ℕ) (input : List ℕ) (cut : Bool) (left : List (List ℕ)) (number : ℕ) (lines : List Line) → HasRead set cores input cut left number lines → EndsFront set cores input lines None

@@ -93,7 +93,7 @@ abbrev pub RefusedAt : Acts → ℕ → List ℕ → Option ℕ → ℕ → ℕ 
 RefusedAt set cores text (Some first) kind column = (kind ≡ kind_number kinds.TooLong) × (column ≡ first)
 RefusedAt set cores text None kind column = LeavesAt set cores text kind column
 
--- A line that isn't refused: within the limits, and without an act or in the grammar.
+-- A line that is short enough, and without an act or in the grammar.
 pub record IsAccepted (set : Acts) (cores : ℕ) (text : List ℕ) : Type 0 where
   pub short : length text ≤ MAX_LINE
   pub spelled : IsTrue (has_act text) → (number : ℕ) → (line : Line) × IsLine set cores number text line
@@ -124,10 +124,13 @@ abbrev pub IsFault : Acts → ℕ → List ℕ → ScriptFault → Type 0
 IsFault set cores input (faults.Refused kind line column) = IsFirstFault set cores input kind line column
 IsFault set cores input faults.NoMemory = Unit {0}
 
--- The first lines of an input, none of which is refused. Those that have an act spell these.
+-- The first lines of an input, none of which is refused: there are no more of them than lines may be, each is short enough and in the
+-- grammar, and the input isn't cut in the last of them. Those that have an act spell these.
 pub record IsFront (set : Acts) (cores : ℕ) (input : List ℕ) (front : List (List ℕ)) (lines : List Line) : Type 0 where
   pub after : List (List ℕ)
   pub whole : lines_read input ≡ front ++ after
+  pub few : length front ≤ MAX_LINES
+  pub uncut : is_cut input && none_left after ≡ false
   pub accepted : All (IsAccepted set cores) front
   pub texts : map numbered_text lines ≡ filter (λ numbered. has_act numbered.1) (enumerate_from 1 front)
   pub can_stand : All (CanStand set cores) lines

@@ -19,7 +19,7 @@ pub enum ScriptFault {
         /// The line, from 1.
         line: u32,
         /// The byte of the line, from 1: the first one of the word that is wrong, or the one behind the line where a
-        /// word is missing.
+        /// word is missing; or the first one that is past a limit.
         column: u32,
     },
     /// There was no memory for the lines.

@@ -1,5 +1,5 @@
 -- What performing a call answers, over blocks that were taken as a state has them.
-use Rattle.std.proofs.Common.{◌≡◌, ◌<◌, [], length, sym, subst, arith}
+use Rattle.std.proofs.Common.{◌≡◌, ◌<◌, [], length, sym, ap, ◌∙◌, subst, arith}
 use Rattle.zj_block.specs.Lists.{Entries}
 use Rattle.zj_block.specs.Sizes.{Numbers}
 use Rattle.zj_block.specs.declared.numbers.BlockNo.{BlockNo}
@@ -12,6 +12,8 @@ use Rattle.zj_layout.specs.Shows.{Changes, Shows, limits_of, put_blocks}
 use Rattle.zj_dirs.specs.Possible.{IsPossible}
 use Rattle.zj_inode.specs.declared.outcome.Outcome.{Outcome}
 use Rattle.zj_inode.specs.declared.outcome.Outcome.TheVariants as outcomes
+use Rattle.std.specs.FinMap as map_of
+use Rattle.zj_dirs.specs.Laws.{NothingIsPut}
 use Rattle.zj_inode.specs.Laws.{FootprintIsWithin}
 use Rattle.zj_inode.specs.Performs.{OutcomeSays, Performs}
 use Rattle.zj_volume.specs.Volume.{Agrees, Serves, ShowsSome}
@@ -41,7 +43,12 @@ module _ (sizes : Numbers) (state : State) (found : Entries) (call : Call) (agre
       record {
         reply_is = λ tree shows. sym (done.each state tree (possible tree shows)).replies;
         leaves = λ tree shows. (done.each state tree (possible tree shows)).leaves;
+        quiet = done.quiet;
       }
 
 pub still_shows : (sizes : Numbers) (state : State) (call : Call) (reply : Reply) (written : Changes) → Serves sizes state call reply written → ShowsSome sizes state → ShowsSome sizes (put_blocks state written)
 still_shows sizes state call reply written serves (tree, shows) = ((apply (limits_of sizes) call tree).1, serves.leaves tree shows)
+
+-- where nothing is written all stays
+pub stays : NothingIsPut → (sizes : Numbers) (old new : State) (written : Changes) → new ≡ put_blocks old written → written ≡ map_of.empty → new ≡ old
+stays law sizes old new written put none = put ∙ ap (put_blocks old) none ∙ law old

@@ -1,5 +1,6 @@
 -- What a volume is, and what a call over blocks answers there.
-use Rattle.std.specs.Prelude.{◌≡◌, ℕ, List, length, Some, slice_get, is_some, not}
+use Rattle.std.specs.Prelude.{◌≡◌, ◌⊎◌, ℕ, List, length, Some, slice_get, is_some, not}
+use Rattle.std.specs.FinMap as map_of
 use Rattle.std.specs.List.{count_by, range_with_len}
 use Rattle.zj_block.specs.Lists.{Entries, content_under}
 use Rattle.zj_block.specs.Sizes.{Numbers}
@@ -9,6 +10,7 @@ use Rattle.zj_tree.specs.Apply.{apply}
 use Rattle.zj_tree.specs.Tree.{FileTree}
 use Rattle.zj_layout.specs.Image.{State}
 use Rattle.zj_layout.specs.Shows.{Shows, Changes, put_blocks, limits_of}
+use Rattle.zj_inode.specs.Performs.{IsRefused, Looks}
 
 -- the blocks of an image, with its sizes
 pub record SizedState : Type 0 where
@@ -19,10 +21,12 @@ pub record SizedState : Type 0 where
 abbrev pub ShowsSome : Numbers → State → Type 0
 ShowsSome sizes state = (tree : FileTree) × Shows sizes state tree
 
--- Whatever tree the blocks show, a reply is the plain service's, and with new contents they show the tree that it leaves.
+-- Whatever tree the blocks show, a reply is the plain service's, and with new contents they show the tree that it leaves. A call that
+-- is refused, or only looks, has none.
 pub record Serves (sizes : Numbers) (state : State) (call : Call) (reply : Reply) (written : Changes) : Type 0 where
   pub reply_is : (tree : FileTree) → Shows sizes state tree → reply ≡ (apply (limits_of sizes) call tree).0
   pub leaves : (tree : FileTree) → Shows sizes state tree → Shows sizes (put_blocks state written) (apply (limits_of sizes) call tree).1
+  pub quiet : IsRefused reply ⊎ Looks call → written ≡ map_of.empty
 
 -- Blocks were taken as a state has them.
 pub record Agrees (found : Entries) (state : State) : Type 0 where

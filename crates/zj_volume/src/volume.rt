@@ -1,15 +1,17 @@
 //! The blocks of an image, which show a tree, and calls on it.
 
-ghost use Rattle.std.specs.Prelude.{◌≡◌, IfOk, OnOk, OnErr};
+ghost use Rattle.std.specs.Prelude.{◌≡◌, ◌⊎◌, IfOk, OnOk, OnErr};
 ghost use Rattle.zj_tree.specs.Apply.{apply};
 ghost use Rattle.zj_tree.specs.Tree.{FileTree};
 ghost use Rattle.zj_layout.specs.Shows.{Shows, limits_of};
+ghost use Rattle.zj_inode.specs.Performs.{IsRefused, Looks};
 ghost use Rattle.zj_volume.specs.Volume.{ShowsSome};
 
 use crate::serving::{put_written, serve};
 use std::alloc::{AllocError, Global};
 use std::marker::Model;
 use zj_block::{Blocks, Sizes};
+use zj_dirs::laws::nothing_is_put;
 use zj_tree::{Call, Reply};
 
 /// The blocks of an image, which show a tree, with its sizes.
@@ -53,13 +55,16 @@ impl Volume {
         &self.blocks
     }
 
-    /// Makes a call: its reply, and its tree in the blocks. A refused call changes nothing, and so does `AllocError`.
+    /// Makes a call: its reply, and its tree in the blocks. A call that is refused, or only looks, changes no block, and so does
+    /// `AllocError`.
     pub fn apply(&mut self, alloc: Global, call: &Call) -> Result<Reply, AllocError>
         ensures reply { IfOk result (λ reply. (tree : FileTree) → Shows self.old.sizes self.old.state tree → reply ≡ (apply (limits_of self.old.sizes) call.now tree).0) }
         ensures shows { OnOk result ((tree : FileTree) → Shows self.old.sizes self.old.state tree → Shows self.new.sizes self.new.state (apply (limits_of self.old.sizes) call.now tree).1) }
+        ensures quiet { IfOk result (λ reply. IsRefused reply ⊎ Looks call.now → self.new ≡ self.old) }
         ensures sizes { self.new.sizes ≡ self.old.sizes }
         ensures err { OnErr result (self.new ≡ self.old) }
     {
+        nothing_is_put();
         let (reply, written) = serve(alloc, &self.sizes, &self.blocks, call)?;
         put_written(&mut self.blocks, &written);
         Ok(reply)

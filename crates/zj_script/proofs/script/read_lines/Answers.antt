@@ -2,7 +2,8 @@ use Rattle.std.proofs.Common.{◌+◌, Bool, List, ap, sym, ◌∙◌, subst}
 use Rattle.zj_script.specs.declared.line.Line.{Line}
 use Rattle.zj_script.specs.Lines.{lines_left}
 use Rattle.zj_script.specs.Script.{past_limit}
-use Rattle.zj_script.proofs.Inputs.{HasRead, none_read, read_none, read_one}
+use Rattle.std.proofs.lemmas.Result.{err_from_is_err_and}
+use Rattle.zj_script.proofs.Inputs.{HasRead, front_limit, front_whole, none_read, read_none, read_one}
 use Rattle.zj_script.proofs.script.read_lines.Goals as goal
 
 pub loop-text-init : goal.loop-text-init
@@ -24,3 +25,12 @@ loop-text-preserved c =
     let h = subst (λ (cut : Bool). HasRead c.args.acts c.args.cores c.args.input.now cut (lines_left c.loop-text.texts) c.loop-text.number c.loop-text.lines.items) (sym c.next.ensures.cut) c.loop-text.invariant in
     let limits = sym (ap (λ (cut : Bool). past_limit (c.loop-text.number + 1) text cut) c.is_cut.ensures) ∙ c.in_ok-check_limits.ensures.ok in
     read_none _ _ _ _ _ _ _ _ text h c.in-Some.ensures.line limits (sym c.has_act.ensures ∙ c.if-has_act.false)
+
+pub returns-in_err-check_limits-clause-front : goal.returns-in_err-check_limits-clause-front
+returns-in_err-check_limits-clause-front c =
+    let p = err_from_is_err_and c.from_residual.result c.from_residual.ensures.1 in
+    rw (p.1, p.2)
+    (front_limit c.args.acts c.args.cores c.args.input.now c.loop-text.texts.cut (lines_left c.loop-text.texts) c.loop-text.number c.loop-text.lines.items _ c.in_err-check_limits.field-0.0 c.loop-text.invariant c.in_err-check_limits.ensures.err)
+
+pub returns-clause-front : goal.returns-clause-front
+returns-clause-front c = front_whole c.args.acts c.args.cores c.args.input.now c.loop-text.texts.cut (lines_left c.loop-text.texts) c.loop-text.number c.loop-text.lines.items c.loop-text.invariant
