@@ -7,6 +7,7 @@ mod usage;
 
 use place::tell_place;
 use recorded::Recorded;
+use std::fs::Files;
 use std::process::ExitCode;
 use std::{env, fs, io};
 use zj_cli::{Fault, Status, zj_tool};
@@ -37,8 +38,8 @@ fn main(rt: HostRuntime) -> io::Result<ExitCode> {
 
 /// Takes the number of a standard stream that is closed, if one is. Else the system would give it to a file of the image, and
 /// what is written to the stream would reach that file; so it fails.
-fn guard(rt: &HostRuntime) -> Option<impl Drop> {
-    fs::open(rt, "/").ok()
+fn guard<R: Files>(files: &R) -> Option<R::File> {
+    fs::open(files, "/").ok()
 }
 
 /// Tells a fault on standard error; of a script also the place, where the input is known.
