@@ -1,0 +1,5 @@
+pub mod CloseLemmas
+pub mod OpenLemmas
+pub mod Opened
+pub mod Refused
+pub mod SetLemmas

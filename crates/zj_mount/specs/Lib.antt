@@ -1,0 +1,4 @@
+pub mod Areas
+pub mod Image
+pub mod Opening
+pub mod Set
