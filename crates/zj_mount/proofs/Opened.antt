@@ -1,18 +1,20 @@
 -- A set of devices that was opened.
-use Rattle.std.proofs.Common.{◌≡◌, ◌≢◌, ℕ, ◌<◌, ◌≤◌, List, length, sym, subst, ◌∙◌}
-use Rattle.std.specs.Prelude.{slice_get}
+use Rattle.std.proofs.Common.{◌≡◌, ◌≢◌, ℕ, ◌<◌, ◌≤◌, List, length, sym, subst, ap, ◌∙◌}
+use Rattle.std.specs.Prelude.{IfSome, None, Option, Some, slice_get}
 use Rattle.zj_dev.specs.Fault.{Rose}
 use Rattle.zj_dev.specs.Disk.{DiskView}
 use Rattle.zj_dev.specs.Shelf.{ShelfView, OthersStay, Slot}
 use Rattle.zj_dev.specs.declared.device.Device.{Device}
 use Rattle.zj_dev.specs.declared.device.Device.TheVariants as devices
 use Rattle.zj_home.specs.Super.{Super}
-use Rattle.zj_area.specs.Journal.{AreaView}
+use Rattle.zj_block.specs.declared.numbers.Tail.{Tail}
+use Rattle.zj_area.specs.Journal.{AreaView, opened as just_opened}
 use Rattle.zj_dev.proofs.DiskLaws.{rose_since, rose_until}
 use Rattle.zj_mount.specs.declared.fault.OpenFault.{OpenFault}
 use Rattle.zj_mount.specs.declared.fault.OpenFault.TheVariants as faults
 use Rattle.zj_mount.specs.Image.{HasHome, HasJournals, IsMissing, OfLength}
-use Rattle.zj_mount.specs.Opening.{AllOpened, AreOpened, IsJournalCause, IsJournalsCause, IsOpenCause}
+use Rattle.zj_mount.specs.Mounting.{AreInOrder, IsJournalOf}
+use Rattle.zj_mount.specs.Opening.{AllOpened, AreOpened, IsJournalCause, IsJournalsCause, IsOpenCause, IsOpened}
 use Rattle.zj_mount.specs.Set.{AllBack, IsBack, IsLent, IsNoJournal, IsOut, home_name, journal_name}
 use Rattle.zj_mount.proofs.OpenLemmas.{match_option}
 use Rattle.zj_mount.proofs.SetLemmas.{back_same, home_differs}
@@ -81,3 +83,20 @@ all_opened view before now super areas few opened = record {
   few = few;
   opened = λ core fits. match_option (slice_get areas core) (λ e was. tt) (λ area e was. was.1) (opened.journals core fits);
 }
+
+module _ {D : Type 0} (super : Super) where
+  -- an area that was just opened is the journal of its core
+  journal_of : (core : ℕ) (area : AreaView D) → IsOpened super core area → IsJournalOf super core area
+  journal_of core area is = by (slice_get super.tails core) is
+    where
+      by : (o : Option Tail) → IfSome o (λ tail. area ≡ just_opened area.device super.sizes core tail) → IfSome o (λ tail. (area.sizes ≡ super.sizes) × (area.core ≡ core) × (area.tail ≡ tail))
+      by None is = tt
+      by (Some tail) is = (ap (λ (a : AreaView D). a.sizes) is, ap (λ (a : AreaView D). a.core) is, ap (λ (a : AreaView D). a.tail) is)
+
+  journal_if : (core : ℕ) (o : Option (AreaView D)) → IfSome o (IsOpened super core) → IfSome o (IsJournalOf super core)
+  journal_if core None is = tt
+  journal_if core (Some area) is = journal_of core area is
+
+  -- and so are all, in order
+  pub in_order : (areas : List (AreaView D)) → AllOpened super areas → AreInOrder super areas
+  in_order areas opened = record { many = opened.many; few = opened.few; journals = λ core fits. journal_if core (slice_get areas core) (opened.opened core fits) }

@@ -6,6 +6,7 @@ ghost use Rattle.zj_dev.specs.Fault.{Rose};
 ghost use Rattle.zj_dev.specs.Shelf.{OthersStay};
 ghost use Rattle.zj_mount.specs.declared.fault.OpenFault.TheVariants as faults;
 ghost use Rattle.zj_mount.specs.Image.{HasHome, HasJournals, IsMissing, OfLength};
+ghost use Rattle.zj_mount.specs.Mounting.{AreInOrder};
 ghost use Rattle.zj_mount.specs.Opening.{AllOpened, AreOpened, IsJournalCause, IsJournalsCause, IsOpenCause, IsOpened, StopsOpening, fault_of_home};
 ghost use Rattle.zj_mount.specs.Set.{AllBack, IsBack, IsLent, IsOut, IsTakenOut, home_name, journal_name};
 
@@ -179,6 +180,7 @@ pub fn open_all<H: Shelf>(alloc: Global, shelf: &mut H) -> Result<Set<H::D>, Ope
     ensures home { IfOk result (λ set. HasHome (H.names shelf.old) set.home.told) }
     ensures journals { IfOk result (λ set. HasJournals (H.names shelf.old) set.home.told set.home.told.sizes.cores) }
     ensures opened { IfOk result (λ set. AllOpened set.home.told set.areas.areas) }
+    ensures in_order { IfOk result (λ set. AreInOrder set.home.told set.areas.areas) }
     ensures quiet { OnOk result (H.faults shelf.new ≡ H.faults shelf.old) }
 
     // Or why it was not, and all is back.

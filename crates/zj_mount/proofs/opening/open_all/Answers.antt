@@ -1,4 +1,4 @@
-use Rattle.zj_mount.proofs.Opened.{all_opened, all_out, set_cause}
+use Rattle.zj_mount.proofs.Opened.{all_opened, all_out, in_order, set_cause}
 use Rattle.zj_mount.proofs.opening.open_all.Goals as goal
 
 pub returns-in-Err-clause-back : goal.returns-in-Err-clause-back
@@ -18,3 +18,8 @@ returns-in-Ok-clause-out g c =
 pub returns-in-Ok-clause-opened : goal.returns-in-Ok-clause-opened
 returns-in-Ok-clause-opened g c =
     all_opened g.H.D.Disk.view (g.H.Shelf.names c.open_home.new.shelf) (g.H.Shelf.names c.open_journals.new.shelf) c.in_ok-home.home.told c.open_journals.new.areas.areas c.in-Ok.ensures.few c.in-Ok.ensures.opened
+
+pub returns-in-Ok-clause-in_order : goal.returns-in-Ok-clause-in_order
+returns-in-Ok-clause-in_order g c =
+    in_order c.in_ok-home.home.told c.open_journals.new.areas.areas
+    (all_opened g.H.D.Disk.view (g.H.Shelf.names c.open_home.new.shelf) (g.H.Shelf.names c.open_journals.new.shelf) c.in_ok-home.home.told c.open_journals.new.areas.areas c.in-Ok.ensures.few c.in-Ok.ensures.opened)
