@@ -29,5 +29,3 @@ pub use opening::{Set, open_all};
 pub use recovered::Recovered;
 pub use scanning::scan_all;
 
-#[cfg(test)]
-mod tests;
