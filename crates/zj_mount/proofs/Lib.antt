@@ -1,0 +1,7 @@
+pub mod CloseLemmas
+pub mod MountLemmas
+pub mod OpenLemmas
+pub mod Opened
+pub mod Refused
+pub mod ScanLemmas
+pub mod SetLemmas

@@ -1,0 +1,8 @@
+use Rattle.std.proofs.Common.{length, ap, subst, sym, ◌∙◌}
+use Rattle.zj_mount.specs.Scanning.{AreRead}
+use Rattle.zj_mount.proofs.mounting.refuse_used.Goals as goal
+
+pub returns-clause-read : goal.returns-clause-read
+returns-clause-read g c =
+    let many = c.read_empty.auto.areas ∙ ap length c.slice_mut.ensures.value in
+    subst (λ areas. AreRead g.D.Disk.view c.args.areas.now.areas areas) (sym (c.slice_mut.ensures.same_len c.read_empty.new.areas many)) (rw c.slice_mut.ensures.value at c.read_empty.ensures.read)

@@ -1,0 +1,47 @@
+-- The journals of an image as they are read, one after the other.
+use Rattle.std.specs.Prelude.{◌≡◌, ℕ, ◌<◌, List, length, None, IfSome, IsSomeAnd, MatchOption, slice_get, ⊤}
+use Rattle.zj_dev.specs.Fault.{Rose}
+use Rattle.zj_dev.specs.Disk.{DiskView, OnlyReads}
+use Rattle.zj_dev.specs.declared.device.Device.TheVariants as devices
+use Rattle.zj_tx.specs.Record.{Record}
+use Rattle.zj_area.specs.Journal.{AreaView}
+use Rattle.zj_area.specs.Ring.{Holds, IsDamaged}
+use Rattle.zj_mount.specs.declared.fault.MountFault.{MountFault}
+use Rattle.zj_mount.specs.declared.fault.MountFault.TheVariants as faults
+
+-- each area is there still, and its device was only read
+abbrev pub AreRead : {D : Type 0} → (D → DiskView) → List (AreaView D) → List (AreaView D) → Type 0
+AreRead view old new = (core : ℕ) → MatchOption (slice_get old core) (slice_get new core ≡ None) (λ a. IsSomeAnd (slice_get new core) (λ b. OnlyReads (view a.device) (view b.device)))
+
+-- the device of an area holds these records
+abbrev pub AreaHolds : {D : Type 0} → (D → DiskView) → AreaView D → List Record → Type 0
+AreaHolds view a records = IfSome (view a.device).bytes (λ image. (end : _) × Holds a.sizes a.core image a.tail records end)
+
+-- it holds some records, so many
+abbrev pub HoldsSome : {D : Type 0} → (D → DiskView) → AreaView D → ℕ → Type 0
+HoldsSome view a count = (records : List Record) × (length records ≡ count) × AreaHolds view a records
+
+-- the devices of the first areas, so many, hold as many records as the counts tell
+abbrev pub AreCounted : {D : Type 0} → (D → DiskView) → List (AreaView D) → List ℕ → ℕ → Type 0
+AreCounted view areas counts many = (core : ℕ) → core < many → IsSomeAnd (slice_get areas core) (λ a. IsSomeAnd (slice_get counts core) (HoldsSome view a))
+
+-- the device of an area failed, and its count of faults rose
+abbrev pub FailsAt : {D : Type 0} → (D → DiskView) → AreaView D → AreaView D → Type 0
+FailsAt view old new = Rose (view old.device).faults (view new.device).faults
+
+-- the bytes of an area are damaged
+abbrev pub IsDamagedAt : {D : Type 0} → (D → DiskView) → AreaView D → ℕ → ℕ → ℕ → Type 0
+IsDamagedAt view a at found expected = IfSome (view a.device).bytes (λ image. IsDamaged a.sizes a.core image a.tail at found expected)
+
+-- why an area was not read
+abbrev pub IsAreaCause : {D : Type 0} → (D → DiskView) → ℕ → AreaView D → AreaView D → MountFault → Type 0
+IsAreaCause view core old new faults.NoMemory = ⊤
+IsAreaCause view core old new (faults.DiskFault device) = (device ≡ devices.Journal core) × FailsAt view old new
+IsAreaCause view core old new (faults.Damaged device at found expected) = (device ≡ devices.Journal core) × IsDamagedAt view old at found expected
+IsAreaCause view core old new fault = ⊥
+
+-- why the areas were not all read: those before one were, and that one was not
+pub record StopsAt {D : Type 0} (view : D → DiskView) (old new : List (AreaView D)) (counts : List ℕ) (fault : MountFault) : Type 0 where
+  pub core : ℕ
+  pub counted : AreCounted view old counts core
+  pub here : IsSomeAnd (slice_get old core) (λ a. IsSomeAnd (slice_get new core) (λ b. IsAreaCause view core a b fault))
