@@ -28,4 +28,3 @@ pub use mounting::mount;
 pub use opening::{Set, open_all};
 pub use recovered::Recovered;
 pub use scanning::scan_all;
-
