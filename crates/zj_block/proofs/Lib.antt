@@ -6,4 +6,5 @@ pub mod Entries
 pub mod Limits
 pub mod Parts
 pub mod SortedEntries
+pub mod Untaken
 pub mod Views

@@ -1,6 +1,6 @@
 -- Contents under the numbers of their blocks.
-use Rattle.std.specs.Prelude.{◌≢◌, ◌==◌, ℕ, ◌<◌, ◌≤◌, IsTrue, List, Option, length, find}
-use Rattle.std.specs.List.{All, AllPairs, slice_index_or}
+use Rattle.std.specs.Prelude.{◌≢◌, ◌==◌, ℕ, ◌<◌, ◌≤◌, IsTrue, List, Option, length, find, is_some, not}
+use Rattle.std.specs.List.{All, AllPairs, count_by, range_with_len, slice_index_or}
 use Rattle.std.specs.FinMap.{is_sorted}
 use Rattle.std.specs.Option.{option_map}
 use Rattle.std.specs.Ordering.{nat_cmp}
@@ -13,6 +13,10 @@ Entries = List (ℕ × List ℕ)
 -- the content of the entry with a number
 abbrev pub content_under : Entries → ℕ → Option (List ℕ)
 content_under entries number = option_map (λ e. e.1) (find (λ e. e.0 == number) entries)
+
+-- how many of the first blocks, so many, have no entry
+abbrev pub count_left : Entries → ℕ → ℕ
+count_left entries blocks = count_by (λ block. not (is_some (content_under entries block))) (range_with_len 0 blocks)
 
 -- no two entries have one number
 abbrev pub AreApart : Entries → Type 0

@@ -1,10 +1,10 @@
 //! Lists of blocks: a whole image, the blocks that were found, and those that are to be written.
 
-ghost use Rattle.std.specs.Prelude.{◌≡◌, ◌<◌, ◌↔◌, [], ◌∷◌, ◌++◌, None, All, IsTrue, IsSome, IfSome, IfNone, OnSome, IfOk, OnOk, OnErr, length, replicate, slice_get, slice_set};
+ghost use Rattle.std.specs.Prelude.{◌≡◌, ◌==◌, ◌<◌, ◌↔◌, ℕ, [], ◌∷◌, ◌++◌, None, Some, All, IsTrue, IsSome, IfSome, IfNone, OnSome, IfOk, OnOk, OnErr, cond, length, replicate, slice_get, slice_set};
 ghost use Rattle.std.specs.Option.{option_copied, option_map};
 ghost use Rattle.zj_block.specs.Block.{IsContent, zero_content};
 ghost use Rattle.std.specs.FinMap as map;
-ghost use Rattle.zj_block.specs.Lists.{AreContents, IsInsertionPoint, IsTaken, content_under};
+ghost use Rattle.zj_block.specs.Lists.{AreContents, IsInsertionPoint, IsTaken, content_under, count_left};
 
 use crate::block::Block;
 use crate::numbers::BlockNo;
@@ -107,6 +107,9 @@ impl Taken {
     pub fn add(&mut self, b: BlockNo, found: &Block) -> Result<(), AllocError>
         requires { content_under self.old b.0 ≡ None }
         ensures ok { OnOk result (self.new ≡ self.old ++ (b.0, found.now) ∷ []) }
+        ensures under { OnOk result ((k : ℕ) → content_under self.new k ≡ cond (b.0 == k) (Some found.now) (content_under self.old k)) }
+        ensures fewer { OnOk result ((blocks : ℕ) → b.0 < blocks → count_left self.new blocks < count_left self.old blocks) }
+        ensures content { IsContent found.now }
         ensures err { OnErr result (self.new ≡ self.old) }
     {
         let _words = found.words();

@@ -24,6 +24,10 @@ pub record Shows (sizes : Numbers) (state : State) (tree : FileTree) : Type 0 wh
   pub sound : IsSound sizes (image_of sizes state)
   pub describes : Describes (graph_of (image_of sizes state)) tree
 
+-- the blocks show some tree
+abbrev pub ShowsSome : Numbers → State → Type 0
+ShowsSome sizes state = (tree : FileTree) × Shows sizes state tree
+
 -- new contents of blocks, by their numbers
 abbrev pub Changes : Type 0
 Changes = map_of.FinMap nat_cmp (List ℕ)

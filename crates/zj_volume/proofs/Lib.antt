@@ -1,4 +1,3 @@
-pub mod Left
 pub mod Puts
 pub mod Served
 pub mod Takes

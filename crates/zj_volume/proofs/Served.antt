@@ -8,7 +8,7 @@ use Rattle.zj_tree.specs.declared.call.Reply.{Reply}
 use Rattle.zj_tree.specs.Apply.{apply}
 use Rattle.zj_tree.specs.Tree.{FileTree}
 use Rattle.zj_layout.specs.Image.{State}
-use Rattle.zj_layout.specs.Shows.{Changes, Shows, limits_of, put_blocks}
+use Rattle.zj_layout.specs.Shows.{Changes, Shows, ShowsSome, limits_of, put_blocks}
 use Rattle.zj_dirs.specs.Possible.{IsPossible}
 use Rattle.zj_inode.specs.declared.outcome.Outcome.{Outcome}
 use Rattle.zj_inode.specs.declared.outcome.Outcome.TheVariants as outcomes
@@ -16,7 +16,7 @@ use Rattle.std.specs.FinMap as map_of
 use Rattle.zj_dirs.specs.Laws.{NothingIsPut}
 use Rattle.zj_inode.specs.Laws.{FootprintIsWithin}
 use Rattle.zj_inode.specs.Performs.{OutcomeSays, Performs}
-use Rattle.zj_volume.specs.Volume.{Agrees, Serves, ShowsSome}
+use Rattle.zj_volume.specs.Volume.{Agrees, Serves}
 
 -- nothing was taken yet
 pub agrees_none : (found : Entries) (state : State) → found ≡ [] → Agrees found state

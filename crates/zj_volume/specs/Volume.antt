@@ -1,7 +1,6 @@
 -- What a volume is, and what a call over blocks answers there.
-use Rattle.std.specs.Prelude.{◌≡◌, ◌⊎◌, ℕ, List, length, Some, slice_get, is_some, not}
+use Rattle.std.specs.Prelude.{◌≡◌, ◌⊎◌, ℕ, List, Some, slice_get}
 use Rattle.std.specs.FinMap as map_of
-use Rattle.std.specs.List.{count_by, range_with_len}
 use Rattle.zj_block.specs.Lists.{Entries, content_under}
 use Rattle.zj_block.specs.Sizes.{Numbers}
 use Rattle.zj_tree.specs.declared.call.Call.{Call}
@@ -17,10 +16,6 @@ pub record SizedState : Type 0 where
   pub sizes : Numbers
   pub state : State
 
--- the blocks show some tree
-abbrev pub ShowsSome : Numbers → State → Type 0
-ShowsSome sizes state = (tree : FileTree) × Shows sizes state tree
-
 -- Whatever tree the blocks show, a reply is the plain service's, and with new contents they show the tree that it leaves. A call that
 -- is refused, or only looks, has none.
 pub record Serves (sizes : Numbers) (state : State) (call : Call) (reply : Reply) (written : Changes) : Type 0 where
@@ -31,7 +26,3 @@ pub record Serves (sizes : Numbers) (state : State) (call : Call) (reply : Reply
 -- Blocks were taken as a state has them.
 pub record Agrees (found : Entries) (state : State) : Type 0 where
   pub each : (block : ℕ) (content : List ℕ) → content_under found block ≡ Some content → slice_get state block ≡ Some content
-
--- how many blocks of a state were not taken
-abbrev pub count_left : Entries → State → ℕ
-count_left found state = count_by (λ block. not (is_some (content_under found block))) (range_with_len 0 (length state))

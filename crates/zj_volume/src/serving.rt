@@ -1,9 +1,9 @@
 //! A call over the blocks that it takes.
 
 ghost use Rattle.std.specs.Prelude.{◌≡◌, ◌<◌, ◌+◌, length, None, IfOk, OnOk};
-ghost use Rattle.zj_block.specs.Lists.{content_under};
-ghost use Rattle.zj_layout.specs.Shows.{put_blocks};
-ghost use Rattle.zj_volume.specs.Volume.{Agrees, Serves, ShowsSome, count_left};
+ghost use Rattle.zj_block.specs.Lists.{content_under, count_left};
+ghost use Rattle.zj_layout.specs.Shows.{ShowsSome, put_blocks};
+ghost use Rattle.zj_volume.specs.Volume.{Agrees, Serves};
 
 use std::alloc::{AllocError, Global};
 use zj_block::{BlockNo, Blocks, Sizes, Taken, Written};
@@ -38,7 +38,7 @@ fn take(blocks: &Blocks, block: BlockNo, taken: &mut Taken) -> Result<(), AllocE
     requires within { block.0 < length blocks.now }
     requires agrees { Agrees taken.old blocks.now }
     ensures agrees { OnOk result (Agrees taken.new blocks.now) }
-    ensures fewer { OnOk result (count_left taken.new blocks.now < count_left taken.old blocks.now) }
+    ensures fewer { OnOk result (count_left taken.new (length blocks.now) < count_left taken.old (length blocks.now)) }
 {
     let content = blocks.at(block.0 as usize).unwrap();
     taken.add(block, content)

@@ -3,9 +3,8 @@
 ghost use Rattle.std.specs.Prelude.{◌≡◌, ◌⊎◌, IfOk, OnOk, OnErr};
 ghost use Rattle.zj_tree.specs.Apply.{apply};
 ghost use Rattle.zj_tree.specs.Tree.{FileTree};
-ghost use Rattle.zj_layout.specs.Shows.{Shows, limits_of};
+ghost use Rattle.zj_layout.specs.Shows.{Shows, ShowsSome, limits_of};
 ghost use Rattle.zj_inode.specs.Performs.{IsRefused, Looks};
-ghost use Rattle.zj_volume.specs.Volume.{ShowsSome};
 
 use crate::serving::{put_written, serve};
 use std::alloc::{AllocError, Global};
@@ -22,7 +21,8 @@ pub struct Volume {
 }
 
 impl Model for Volume {
-    ghost use Rattle.zj_volume.specs.Volume.{SizedState, ShowsSome};
+    ghost use Rattle.zj_layout.specs.Shows.{ShowsSome};
+    ghost use Rattle.zj_volume.specs.Volume.{SizedState};
 
     ghost Value = { SizedState };
 

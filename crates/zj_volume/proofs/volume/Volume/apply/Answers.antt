@@ -1,6 +1,6 @@
 -- The new contents make the blocks show the tree that the call leaves.
 use Rattle.std.proofs.Common.{sym, subst}
-use Rattle.zj_volume.specs.Volume.{ShowsSome}
+use Rattle.zj_layout.specs.Shows.{ShowsSome}
 use Rattle.zj_volume.proofs.Served.{still_shows}
 use Rattle.zj_volume.proofs.volume.Volume.apply.Goals as goal
 

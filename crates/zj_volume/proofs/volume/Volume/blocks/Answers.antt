@@ -1,5 +1,6 @@
 use Rattle.std.proofs.Common.{subst}
-use Rattle.zj_volume.specs.Volume.{SizedState, ShowsSome}
+use Rattle.zj_layout.specs.Shows.{ShowsSome}
+use Rattle.zj_volume.specs.Volume.{SizedState}
 use Rattle.zj_volume.proofs.volume.Volume.blocks.Goals as goal
 
 pub returns-clause-shows : goal.returns-clause-shows
