@@ -6,13 +6,21 @@ use Rattle.zj_history.specs.Operation.{Operation}
 use Rattle.zj_history.specs.State.{BlockState}
 use Rattle.zj_history.specs.Legal.{IsLegal}
 use Rattle.zj_turns.specs.CacheHistory.{operations_on}
-use Rattle.zj_turns.specs.Views.{found_of, loaded_as, seal_of, stamp_in}
+use Rattle.zj_turns.specs.Views.{View, Has, found_of, loaded_as, seal_of, stamp_in}
+use Rattle.zj_turns.specs.Passes.{HasOperations}
 
 -- A legal history is told by the operations of each core: there are not two with the same ones.
 abbrev pub ToldByCores : Type 0
 ToldByCores = (start : BlockState) (cores : ℕ) (one other : List Operation)
     → IsLegal start one → IsLegal start other → All (λ o. o.core < cores) one → All (λ o. o.core < cores) other
     → ((core : ℕ) → core < cores → operations_on core one ≡ operations_on core other) → one ≡ other
+
+-- What a pass knows that has met every core is one history: there are not two legal ones of the cache's cores with the operations
+-- of each core as it knows them.
+abbrev pub OneHistory : Type 0
+OneHistory = (start : BlockState) (cores : ℕ) (v : View) (one other : List Operation) → ((core : ℕ) → core < cores → Has v core)
+    → IsLegal start one → IsLegal start other → All (λ o. o.core < cores) one → All (λ o. o.core < cores) other
+    → HasOperations v one → HasOperations v other → one ≡ other
 
 -- A block that was loaded was found with that content and that writer, and its words have that stamp.
 abbrev pub LoadedIsFound : Type 0

@@ -6,6 +6,7 @@ use Rattle.zj_turns.specs.Passes.{lone}
 use Rattle.zj_turns.proofs.Stamping.{length-seal_of}
 use Rattle.zj_turns.proofs.Again.{holding_again, held_after}
 use Rattle.zj_turns.proofs.Lone.{lone_step, lone_is, lone_holds, lone_hold, holding_only, has_here, idle_again}
+use Rattle.zj_turns.proofs.Maps.{some_there}
 use Rattle.zj_turns.proofs.tests.add_one.Goals as goal
 
 pub try_take-requires-clause-free : goal.try_take-requires-clause-free
@@ -147,7 +148,7 @@ give-requires-clause-done c =
     let p3 : c.store.new.pass ≡ lone t n (holding i b h3) = lone_step t n (λ k. holding k b (stored_as (hold_in k b).loaded x)) (holding i b (loaded_as w)) c.load.new.pass c.store.new.pass p2 c.store.ensures.pass ∙ ap (lone t n) (holding_again i b (loaded_as w) h3) in
     let k4 : Known = drawing (holding i b h3) (operation_of (holding i b h3) c.draw-ticket.result c.store.new.pass.core 5) in
     let p4 : c.draw-ticket.new.pass ≡ lone t n k4 = lone_step t n (λ k. drawing k (operation_of k c.draw-ticket.result c.store.new.pass.core 5)) (holding i b h3) c.store.new.pass c.draw-ticket.new.pass p3 c.draw-ticket.ensures.pass in
-    inr (ap (λ (k : Known). k.drawn) (lone_is t n k4 c.draw-ticket.new.pass p4))
+    inr (ap (λ (k : Known). k.drawn) (lone_is t n k4 c.draw-ticket.new.pass p4) ∙ some_there (holding i b h3).held b (has_here i b h3))
 
 pub returns-in-Ok-clause-idle : goal.returns-in-Ok-clause-idle
 returns-in-Ok-clause-idle c =
