@@ -13,8 +13,8 @@ ghost use Rattle.zj_changes.specs.Resized.{FreesBlocks, PutsBytes};
 ghost use Rattle.zj_dirs.specs.Looking.{IsLowestBlock};
 ghost use Rattle.zj_dirs.specs.Possible.{AllTaken, Halts, KeepsContents, Made, Turns, overlaid};
 ghost use Rattle.zj_inode.specs.Answering.{Builds, CallStops, count_written};
-ghost use Rattle.zj_inode.specs.Files.{Cuts, IsTruncateBlock, IsMapOf, IsWhole, Overwrites, PutsInto, PutsSeen, TakeBlockStops, TakesBlock, TrimsAround, WriteStops, WritesFirst, blocks_up_to};
-ghost use Rattle.zj_inode.specs.Performs.{OutcomeSays};
+ghost use Rattle.zj_inode.specs.Files.{Cuts, IsTruncateBlock, IsMapOf, Overwrites, PutsInto, PutsSeen, TakeBlockStops, TakesBlock, TrimsAround, WriteStops, WritesFirst, blocks_up_to};
+ghost use Rattle.zj_inode.specs.Performs.{IsWhole, NeedsWithin, OutcomeSays};
 
 use crate::finding::{Located, go_to_file};
 use crate::finishing::stop;
@@ -157,6 +157,7 @@ pub(crate) fn write(
     taken: &Taken,
 ) -> Result<Outcome, AllocError>
     ensures says { IfOk result (OutcomeSays sizes.now taken.now (calls.Write path.now at bytes.now)) }
+    ensures within { IfOk result (NeedsWithin sizes.now) }
     ensures whole { IfOk result (IsWhole sizes.now taken.now path.now at (length bytes.now)) }
     ensures few { IfOk result (λ outcome. count_written outcome ≤ MAX_RECORD_BLOCKS) }
 {
@@ -171,7 +172,7 @@ pub(crate) fn write(
                 written: trim_around(alloc, taken, &built, &blocks, low, high)?,
             })
         }
-        Err(stopped) => stop(alloc, stopped),
+        Err(stopped) => stop(alloc, sizes, stopped),
     }
 }
 
