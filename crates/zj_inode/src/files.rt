@@ -23,7 +23,7 @@ use crate::stopped::Stopped;
 use std::alloc::{AllocError, Global};
 use zj_block::{BLOCK_LEN, Block, BlockNo, Sizes, Taken, Written};
 use zj_dirs::answers::Halt;
-use zj_dirs::looking::seen;
+use zj_dirs::looking::{named_data, seen};
 use zj_dirs::searching::free_block;
 use zj_dirs::setting::{set_content, set_map, set_node};
 use zj_dirs::trimming::trim;
@@ -142,6 +142,7 @@ pub(crate) fn free_blocks(
     ensures halt { IfErr result (Halts sizes.now taken.now built.old (λ image block. IsMapOf image of.now.number low high block)) }
 {
     for j in low..high {
+        named_data(sizes, of.node.blocks[j as usize])?;
         set_map(sizes, of.node.blocks[j as usize], false, taken, built)?;
     }
     Ok(())
@@ -282,6 +283,7 @@ fn write_blocks(
     let mut blocks = numbers(&file.node);
     for j in at / len..end {
         if j < had {
+            named_data(sizes, blocks[j as usize])?;
             write_old(sizes, blocks[j as usize], len * j, at, bytes, taken, built)?;
         } else {
             blocks[j as usize] = write_new(sizes, len * j, at, bytes, taken, built)?;

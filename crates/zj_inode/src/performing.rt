@@ -22,11 +22,10 @@ use zj_block::{BlockNo, Sizes, Taken, Written};
 use zj_layout::Kind;
 use zj_tree::{Call, Reply};
 
-/// Performs a call over the blocks that were taken, or tells which block it needs besides: for every call that of the root's
-/// node first. It writes nothing: the new contents are in the outcome, no more than one record holds.
+/// Performs a call over the blocks that were taken, or tells which block it needs besides: first of all that of the root's
+/// node, whatever the call is. It writes nothing: the new contents are in the outcome, no more than one record holds.
 ///
-/// The outcome is `Odd` only where the blocks are part of no state that shows a tree. `AllocError`: no memory was at hand, and
-/// nothing is left of the call.
+/// The outcome is `Odd` only where the blocks are part of no state that shows a tree. `AllocError`: no memory was at hand.
 pub fn perform(
     alloc: Global,
     sizes: &Sizes,
