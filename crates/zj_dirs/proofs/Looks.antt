@@ -72,6 +72,10 @@ module _ (sizes : Numbers) (found : Entries) (written : Changes) (state : State)
       both : (a b c : ℕ) → a ≤ b → b < c → (leb a b && ltb b c) ≡ true
       both a b c h k = grind arith
 
+  -- so is the number that the node names it by
+  pub number_data : (place : ℕ) → place < node.size → is_data sizes (get_or node.blocks (place / 16) 0) ≡ true
+  number_data place lt = ap (is_data sizes) (sym (block_is place)) ∙ for_data place lt
+
   -- the entry in a block that is seen is the made state's
   pub entry_seen : (place : ℕ) (content : List ℕ) → place < node.size → overlaid found written (get_or node.blocks (place / 16) 0) ≡ Some content → entry_at im dir place ≡ link_in content (place % 16)
   entry_seen place content lt h =

@@ -97,3 +97,8 @@ pub record CutsLast (old new : Image) (dir last : ℕ) (node : Node) : Type 0 wh
 -- a block that this needs: that of the node, and the one of the map that has the freed block's byte
 abbrev pub IsCutBlock : Numbers → ℕ → ℕ → Node → ℕ → Type 0
 IsCutBlock sizes dir last node block = (block ≡ node_block sizes dir) ⊎ ((last % 16 ≡ 0) × (block ≡ map_block (slice_index node.blocks (last / 16))))
+
+-- a block that a change needs is one of the image
+abbrev pub ChangesWithin : Numbers → changes.Change → Type 0
+ChangesWithin sizes (answers.Need block) = block.0 < sizes.blocks
+ChangesWithin sizes _ = Unit {0}

@@ -59,3 +59,8 @@ IsMapSearch sizes image block = (block < map_blocks sizes) × ((lower : ℕ) →
 abbrev pub IsLowestZero : List ℕ → ℕ → Option ℕ → Type 0
 IsLowestZero content count (Some place) = (place < count) × (byte_in content place ≡ 0) × ((lower : ℕ) → lower < place → byte_in content lower ≢ 0)
 IsLowestZero content count None = (place : ℕ) → place < count → byte_in content place ≢ 0
+
+-- a block that a search for a name needs is one of the image
+abbrev pub FindsWithin : Numbers → finds.Find → Type 0
+FindsWithin sizes (answers.Need block) = block.0 < sizes.blocks
+FindsWithin sizes _ = Unit {0}

@@ -1,5 +1,5 @@
 -- What blocks that were taken say of every state that they may be part of.
-use Rattle.std.specs.Prelude.{◌≡◌, ℕ, List, Option, Some, None, IsSome, slice_get}
+use Rattle.std.specs.Prelude.{◌≡◌, ℕ, ◌<◌, List, Option, Some, None, IsSome, slice_get}
 use Rattle.std.specs.FinMap as map_of
 use Rattle.std.specs.Option.{option_or, unwrap_or}
 use Rattle.zj_block.specs.Lists.{Entries, content_under}
@@ -63,6 +63,15 @@ abbrev pub Halts : Numbers → Entries → Changes → (Image → ℕ → Type 0
 Halts sizes found written Due (halt.Need block) = IsNeeded sizes found written Due block.0
 Halts sizes found written Due halt.Odd = IsOdd sizes found
 Halts sizes found written Due halt.NoMemory = Unit {0}
+
+-- a block that is needed is one of the image
+abbrev pub StopsWithin : Numbers → stops.Stop → Type 0
+StopsWithin sizes (stop.Need block) = block.0 < sizes.blocks
+StopsWithin sizes stop.Odd = Unit {0}
+
+abbrev pub HaltsWithin : Numbers → halts.Halt → Type 0
+HaltsWithin sizes (halt.Need block) = block.0 < sizes.blocks
+HaltsWithin sizes _ = Unit {0}
 
 -- a stop of a look, as it halts a change
 abbrev pub halted : stops.Stop → halts.Halt

@@ -68,3 +68,8 @@ WalkSays sizes found path (answers.Found node) = Always sizes found (λ image. f
 WalkSays sizes found path answers.NotFound = Always sizes found (λ image. LacksName image path)
 WalkSays sizes found path answers.NotDir = Always sizes found (λ image. MeetsFile image path)
 WalkSays sizes found path answers.Odd = IsOdd sizes found
+
+-- a block that a walk needs is one of the image
+abbrev pub WalksWithin : Numbers → walks.Walk → Type 0
+WalksWithin sizes (answers.Need block) = block.0 < sizes.blocks
+WalksWithin sizes _ = Unit {0}

@@ -8,11 +8,11 @@ ghost use Rattle.zj_layout.specs.Image.{item_block, node_of};
 ghost use Rattle.zj_layout.specs.Node.{is_node, link_in};
 ghost use Rattle.zj_layout.specs.Stored.{IsStored};
 ghost use Rattle.zj_changes.specs.Entry.{Appends};
-ghost use Rattle.zj_dirs.specs.Changing.{CutsLast, FillsHole, IsCutBlock, IsPlaceBlock, IsRemoveBlock, PlaceSays, RemoveSays, Removes};
-ghost use Rattle.zj_dirs.specs.Possible.{AllTaken, Halts, Made, KeepsContents, Turns};
+ghost use Rattle.zj_dirs.specs.Changing.{ChangesWithin, CutsLast, FillsHole, IsCutBlock, IsPlaceBlock, IsRemoveBlock, PlaceSays, RemoveSays, Removes};
+ghost use Rattle.zj_dirs.specs.Possible.{AllTaken, Halts, HaltsWithin, Made, KeepsContents, Turns};
 
 use crate::answers::{Change, Halt};
-use crate::looking::{read_dir, read_link};
+use crate::looking::{named_data, read_dir, read_link};
 use crate::searching::free_block;
 use crate::setting::{set_content, set_link, set_map, set_node};
 use std::alloc::AllocError;
@@ -31,6 +31,7 @@ pub fn place(
     requires stored { Made sizes.now taken.now written.old (IsStored sizes.now) }
     requires directory { Made sizes.now taken.now written.old (λ image. (node_of image dir).kind ≡ kinds.Dir) }
     ensures says { IfOk result (PlaceSays sizes.now taken.now written.old written.new dir link.now) }
+    ensures within { IfOk result (ChangesWithin sizes.now) }
     ensures taken { AllTaken taken.now written.old → AllTaken taken.now written.new }
     ensures kept { KeepsContents taken.now written.old written.new }
     ensures few { map_of.len written.new ≤ map_of.len written.old + 3 }
@@ -58,6 +59,8 @@ fn append(
     ensures kept { KeepsContents taken.now written.old written.new }
     ensures few { map_of.len written.new ≤ map_of.len written.old + 3 }
     ensures halt { IfErr result (Halts sizes.now taken.now written.old (λ image block. IsPlaceBlock sizes.now image dir block)) }
+    ensures inside { IfOk result (ChangesWithin sizes.now) }
+    ensures within { IfErr result (HaltsWithin sizes.now) }
 {
     let node = read_dir(sizes, dir, taken, Some(&*written))?;
     if node.size >= MAX_ENTRIES as u32 {
@@ -90,8 +93,11 @@ fn append_in_last(
     ensures kept { KeepsContents taken.now written.old written.new }
     ensures few { map_of.len written.new ≤ map_of.len written.old + 2 }
     ensures halt { IfErr result (Halts sizes.now taken.now written.old (λ image block. IsPlaceBlock sizes.now image dir block)) }
+    ensures inside { IfOk result (ChangesWithin sizes.now) }
+    ensures within { dir < sizes.now.nodes → IfErr result (HaltsWithin sizes.now) }
 {
     let block = node.blocks[(node.size / LINKS_PER_BLOCK) as usize];
+    named_data(sizes, block)?;
     let grown = Node {
         kind: Kind::Dir,
         size: node.size + 1,
@@ -129,6 +135,8 @@ fn append_in_new(
     ensures kept { KeepsContents taken.now written.old written.new }
     ensures few { map_of.len written.new ≤ map_of.len written.old + 3 }
     ensures halt { IfErr result (Halts sizes.now taken.now written.old (λ image block. IsPlaceBlock sizes.now image dir block)) }
+    ensures inside { IfOk result (ChangesWithin sizes.now) }
+    ensures within { dir < sizes.now.nodes → IfErr result (HaltsWithin sizes.now) }
 {
     let Some(block) = free_block(sizes, taken, written)? else {
         return Ok(Change::NoSpace);
@@ -172,6 +180,7 @@ pub fn remove(
     requires directory { Made sizes.now taken.now written.old (λ image. (node_of image dir).kind ≡ kinds.Dir) }
     requires place { Made sizes.now taken.now written.old (λ image. place < (node_of image dir).size) }
     ensures says { IfOk result (RemoveSays sizes.now taken.now written.old written.new dir place) }
+    ensures within { IfOk result (ChangesWithin sizes.now) }
     ensures taken { AllTaken taken.now written.old → AllTaken taken.now written.new }
     ensures kept { KeepsContents taken.now written.old written.new }
     ensures few { map_of.len written.new ≤ map_of.len written.old + 3 }
@@ -200,11 +209,16 @@ fn detach(
     ensures kept { KeepsContents taken.now written.old written.new }
     ensures few { map_of.len written.new ≤ map_of.len written.old + 3 }
     ensures halt { IfErr result (Halts sizes.now taken.now written.old (λ image block. IsRemoveBlock sizes.now image dir place block)) }
+    ensures within { IfErr result (HaltsWithin sizes.now) }
 {
     let node = read_dir(sizes, dir, taken, Some(&*written))?;
     if place >= node.size {
         return Err(Halt::Odd);
     }
+    named_data(
+        sizes,
+        node.blocks[((node.size - 1) / LINKS_PER_BLOCK) as usize],
+    )?;
     fill_hole(sizes, dir, &node, place, taken, written)?;
     cut_last(sizes, dir, &node, taken, written)
 }
@@ -228,6 +242,7 @@ fn fill_hole(
     ensures kept { KeepsContents taken.now written.old written.new }
     ensures few { map_of.len written.new ≤ map_of.len written.old + 1 }
     ensures halt { IfErr result (Halts sizes.now taken.now written.old (λ image block. IsRemoveBlock sizes.now image dir place block)) }
+    ensures within { IfErr result (HaltsWithin sizes.now) }
 {
     let last = node.size - 1;
     if place == last {
@@ -235,6 +250,7 @@ fn fill_hole(
     }
     let link = read_link(sizes, dir, node, last, taken, Some(&*written))?;
     let block = node.blocks[(place / LINKS_PER_BLOCK) as usize];
+    named_data(sizes, block)?;
     set_link(sizes, block, place % LINKS_PER_BLOCK, &link, taken, written)
 }
 
@@ -255,6 +271,7 @@ fn cut_last(
     ensures kept { KeepsContents taken.now written.old written.new }
     ensures few { map_of.len written.new ≤ map_of.len written.old + 2 }
     ensures halt { IfErr result (Halts sizes.now taken.now written.old (λ image block. IsCutBlock sizes.now dir (node.now.size - 1) node.now block)) }
+    ensures within { dir < sizes.now.nodes → slice_index node.now.blocks ((node.now.size - 1) / 16) < sizes.now.blocks → IfErr result (HaltsWithin sizes.now) }
 {
     let last = node.size - 1;
     let mut blocks = node.blocks;

@@ -1,15 +1,16 @@
 //! Looking at nodes and entries, over blocks that were taken, with the written ones put in.
 
-ghost use Rattle.std.specs.Prelude.{◌≡◌, ◌<◌, ◌≤◌, IfOk, IfErr, IfNone, IfSome, IsTrue, Some};
+ghost use Rattle.std.specs.Prelude.{◌≡◌, ◌<◌, ◌≤◌, IfOk, IfErr, IfNone, IfSome, IsTrue, OnOk, Some, false};
 ghost use Rattle.std.specs.Option.{option_copied};
 ghost use Rattle.zj_block.specs.Block.{IsContent};
 ghost use Rattle.zj_layout.specs.declared.fields.Kind.TheVariants as kinds;
-ghost use Rattle.zj_layout.specs.Image.{entry_at, item_block, node_block, node_of};
+ghost use Rattle.zj_layout.specs.Image.{entry_at, is_data, item_block, node_block, node_of};
 ghost use Rattle.zj_layout.specs.declared.fields.Link.{Link};
 ghost use Rattle.zj_layout.specs.Node.{is_node, link_in};
 ghost use Rattle.zj_layout.specs.Stored.{IsStored};
-ghost use Rattle.zj_dirs.specs.Looking.{FindSays, HasOther, IsEntry};
-ghost use Rattle.zj_dirs.specs.Possible.{Made, Stops, or_nothing, overlaid};
+ghost use Rattle.zj_dirs.specs.declared.answers.Stop.TheVariants as stops;
+ghost use Rattle.zj_dirs.specs.Looking.{FindSays, FindsWithin, HasOther, IsEntry};
+ghost use Rattle.zj_dirs.specs.Possible.{Made, Stops, StopsWithin, or_nothing, overlaid};
 ghost use Rattle.zj_dirs.specs.Walking.{IsSearched, IsStepBlock};
 
 use crate::answers::{Entry, Find, Stop};
@@ -42,7 +43,9 @@ pub fn read_node(
     requires within { Made sizes.now taken.now (or_nothing (option_copied written)) (λ image. number < sizes.now.nodes) }
     ensures ok { IfOk result (λ node. Made sizes.now taken.now (or_nothing (option_copied written.entry)) (λ image. image.node number ≡ Some node)) }
     ensures spelled { IfOk result (λ node. IsTrue (is_node node)) }
+    ensures inside { OnOk result (number < sizes.now.nodes) }
     ensures stop { IfErr result (Stops sizes.now taken.now (or_nothing (option_copied written.entry)) (λ image block. block ≡ node_block sizes.now number)) }
+    ensures within { IfErr result (StopsWithin sizes.now) }
 {
     if number >= sizes.nodes() {
         return Err(Stop::Odd);
@@ -70,13 +73,28 @@ pub fn read_dir(
     ensures spelled { IfOk result (λ node. IsTrue (is_node node)) }
     ensures directory { IfOk result (λ node. node.kind ≡ kinds.Dir) }
     ensures few { IfOk result (λ node. node.size ≤ 192) }
+    ensures inside { OnOk result (dir < sizes.now.nodes) }
     ensures stop { IfErr result (Stops sizes.now taken.now (or_nothing (option_copied written.entry)) (λ image block. block ≡ node_block sizes.now dir)) }
+    ensures within { IfErr result (StopsWithin sizes.now) }
 {
     let node = read_node(sizes, dir, taken, written)?;
     match node.kind {
         Kind::Dir => Ok(node),
         Kind::Free => Err(Stop::Odd),
         Kind::File => Err(Stop::Odd),
+    }
+}
+
+/// Whether a number by which a node names a block is that of a block for data. `Odd`: it isn't, and no state that shows a tree
+/// has a node that names it, since each names blocks for data alone.
+pub fn named_data(sizes: &Sizes, block: u32) -> Result<(), Stop>
+    ensures ok { OnOk result (IsTrue (is_data sizes.now block)) }
+    ensures stop { IfErr result (λ stop. (stop ≡ stops.Odd) × (is_data sizes.now block ≡ false)) }
+{
+    if sizes.first_data() <= block && block < sizes.blocks() {
+        Ok(())
+    } else {
+        Err(Stop::Odd)
     }
 }
 
@@ -96,8 +114,10 @@ pub fn read_link(
     requires place { place < node.now.size }
     ensures ok { IfOk result (λ link. Made sizes.now taken.now (or_nothing (option_copied written.entry)) (λ image. entry_at image dir place ≡ Some link)) }
     ensures stop { IfErr result (Stops sizes.now taken.now (or_nothing (option_copied written.entry)) (λ image block. block ≡ item_block image dir place)) }
+    ensures within { IfErr result (StopsWithin sizes.now) }
 {
     let block = BlockNo(node.blocks[(place / LINKS_PER_BLOCK) as usize]);
+    named_data(sizes, block.0)?;
     let Some(content) = seen(block, taken, written) else {
         return Err(Stop::Need(block));
     };
@@ -122,6 +142,7 @@ pub(crate) fn find_entry(
     requires few { node.now.size ≤ 192 }
     ensures ok { IfOk result (λ entry. Made sizes.now taken.now (or_nothing (option_copied written.entry)) (λ image. IsEntry image dir name.now entry)) }
     ensures stop { IfErr result (Stops sizes.now taken.now (or_nothing (option_copied written.entry)) (λ image block. IsSearched image dir name.now block)) }
+    ensures within { IfErr result (StopsWithin sizes.now) }
 {
     for place in 0..node.size {
         if let Some(link) = read_named(sizes, dir, node, place, name, taken, written)? {
@@ -152,8 +173,10 @@ fn read_named(
     ensures some { IfOk result (λ found. IfSome found (λ link. (link.name ≡ name.now) × Made sizes.now taken.now (or_nothing (option_copied written.entry)) (λ image. entry_at image dir place ≡ Some link))) }
     ensures none { IfOk result (λ found. IfNone found (Made sizes.now taken.now (or_nothing (option_copied written.entry)) (λ image. HasOther image dir place name.now))) }
     ensures stop { IfErr result (Stops sizes.now taken.now (or_nothing (option_copied written.entry)) (λ image block. block ≡ item_block image dir place)) }
+    ensures within { IfErr result (StopsWithin sizes.now) }
 {
     let block = BlockNo(node.blocks[(place / LINKS_PER_BLOCK) as usize]);
+    named_data(sizes, block.0)?;
     let Some(content) = seen(block, taken, written) else {
         return Err(Stop::Need(block));
     };
@@ -189,7 +212,8 @@ fn may_have_name(content: &Block, place: u32, name: &Name) -> bool
 pub fn find(sizes: &Sizes, dir: u32, name: &Name, taken: &Taken, written: &Written) -> Find
     requires stored { Made sizes.now taken.now written.now (IsStored sizes.now) }
     requires directory { Made sizes.now taken.now written.now (λ image. (node_of image dir).kind ≡ kinds.Dir) }
-    ensures { FindSays sizes.now taken.now written.now dir name.now result }
+    ensures says { FindSays sizes.now taken.now written.now dir name.now result }
+    ensures within { FindsWithin sizes.now result }
 {
     match search(sizes, dir, name, taken, written) {
         Ok(Some(entry)) => Find::Found {
@@ -214,6 +238,7 @@ fn search(
     requires directory { Made sizes.now taken.now written.now (λ image. (node_of image dir).kind ≡ kinds.Dir) }
     ensures ok { IfOk result (λ entry. Made sizes.now taken.now written.now (λ image. IsEntry image dir name.now entry)) }
     ensures stop { IfErr result (Stops sizes.now taken.now written.now (λ image block. IsStepBlock sizes.now image dir name.now block)) }
+    ensures within { IfErr result (StopsWithin sizes.now) }
 {
     let node = read_dir(sizes, dir, taken, Some(written))?;
     find_entry(sizes, dir, &node, name, taken, Some(written))

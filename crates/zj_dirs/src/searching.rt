@@ -6,7 +6,7 @@ ghost use Rattle.zj_layout.specs.declared.fields.Node.{Node};
 ghost use Rattle.zj_layout.specs.Node.{byte_in, node_in};
 ghost use Rattle.zj_layout.specs.Stored.{IsStored};
 ghost use Rattle.zj_dirs.specs.Looking.{IsLowestBlock, IsLowestNode, IsLowestZero, IsMapSearch, IsNodeSearch};
-ghost use Rattle.zj_dirs.specs.Possible.{Made, Stops};
+ghost use Rattle.zj_dirs.specs.Possible.{Made, Stops, StopsWithin};
 
 use crate::answers::Stop;
 use crate::looking::seen;
@@ -18,6 +18,7 @@ pub fn free_node(sizes: &Sizes, taken: &Taken, written: &Written) -> Result<Opti
     ensures ok { IfOk result (λ found. Made sizes.now taken.now written.now (λ image. IsLowestNode sizes.now image found)) }
     ensures below { IfOk result (λ found. IfSome found (λ number. number < sizes.now.nodes)) }
     ensures stop { IfErr result (Stops sizes.now taken.now written.now (IsNodeSearch sizes.now)) }
+    ensures within { IfErr result (StopsWithin sizes.now) }
 {
     for number in 0..sizes.nodes() {
         let block = BlockNo(sizes.map_blocks() + number / NODES_PER_BLOCK);
@@ -42,7 +43,9 @@ fn is_free(content: &Block, place: u32) -> bool
 /// The lowest free block, if one is free.
 pub fn free_block(sizes: &Sizes, taken: &Taken, written: &Written) -> Result<Option<u32>, Stop>
     ensures ok { IfOk result (λ found. Made sizes.now taken.now written.now (λ image. IsLowestBlock sizes.now image found)) }
+    ensures below { IfOk result (λ found. IfSome found (λ block. block < sizes.now.blocks)) }
     ensures stop { IfErr result (Stops sizes.now taken.now written.now (IsMapSearch sizes.now)) }
+    ensures within { IfErr result (StopsWithin sizes.now) }
 {
     for k in 0..sizes.map_blocks() {
         let first = k * BLOCKS_PER_MAP_BLOCK;

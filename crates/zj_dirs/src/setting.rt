@@ -5,7 +5,7 @@ ghost use Rattle.std.specs.FinMap as map_of;
 ghost use Rattle.zj_layout.specs.Image.{is_data, map_block, node_block};
 ghost use Rattle.zj_layout.specs.Node.{is_node};
 ghost use Rattle.zj_changes.specs.Tables.{SetsContent, SetsLink, SetsMap, SetsNode};
-ghost use Rattle.zj_dirs.specs.Possible.{AllTaken, Halts, KeepsContents, Turns};
+ghost use Rattle.zj_dirs.specs.Possible.{AllTaken, Halts, HaltsWithin, KeepsContents, Turns};
 
 use crate::answers::Halt;
 use crate::looking::seen;
@@ -26,6 +26,7 @@ pub fn set_node(
     ensures kept { KeepsContents taken.now written.old written.new }
     ensures few { map_of.len written.new ≤ map_of.len written.old + 1 }
     ensures halt { IfErr result (Halts sizes.now taken.now written.old (λ image block. block ≡ node_block sizes.now number)) }
+    ensures within { number < sizes.now.nodes → IfErr result (HaltsWithin sizes.now) }
 {
     let block = BlockNo(sizes.map_blocks() + number / NODES_PER_BLOCK);
     let Some(found) = seen(block, taken, Some(&*written)) else {
@@ -49,6 +50,7 @@ pub fn set_map(
     ensures kept { KeepsContents taken.now written.old written.new }
     ensures few { map_of.len written.new ≤ map_of.len written.old + 1 }
     ensures halt { IfErr result (Halts sizes.now taken.now written.old (λ image b. b ≡ map_block block)) }
+    ensures within { block < sizes.now.blocks → IfErr result (HaltsWithin sizes.now) }
 {
     let of_map = BlockNo(block / BLOCKS_PER_MAP_BLOCK);
     let Some(found) = seen(of_map, taken, Some(&*written)) else {
@@ -74,6 +76,7 @@ pub(crate) fn set_link(
     ensures kept { KeepsContents taken.now written.old written.new }
     ensures few { map_of.len written.new ≤ map_of.len written.old + 1 }
     ensures halt { IfErr result (Halts sizes.now taken.now written.old (λ image b. b ≡ block)) }
+    ensures within { block < sizes.now.blocks → IfErr result (HaltsWithin sizes.now) }
 {
     let Some(found) = seen(BlockNo(block), taken, Some(&*written)) else {
         return Err(Halt::Need(BlockNo(block)));
@@ -96,6 +99,7 @@ pub fn set_content(
     ensures kept { KeepsContents taken.now written.old written.new }
     ensures few { map_of.len written.new ≤ map_of.len written.old + 1 }
     ensures halt { IfErr result (Halts sizes.now taken.now written.old (λ image b. b ≡ block)) }
+    ensures within { block < sizes.now.blocks → IfErr result (HaltsWithin sizes.now) }
 {
     let Some(_found) = seen(BlockNo(block), taken, Some(&*written)) else {
         return Err(Halt::Need(BlockNo(block)));

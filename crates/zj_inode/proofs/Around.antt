@@ -10,6 +10,8 @@ use Rattle.zj_block.specs.Lists.{Entries, content_under}
 use Rattle.zj_block.specs.Sizes.{Numbers}
 use Rattle.zj_tree.specs.Apply.{apply}
 use Rattle.zj_tree.specs.Tree.{FileTree}
+use Rattle.zj_tree.specs.declared.call.Call.{Call}
+use Rattle.zj_tree.specs.declared.call.Call.TheVariants as calls
 use Rattle.zj_tree.specs.declared.call.Call.TheVariants.{Write}
 use Rattle.zj_tree.specs.declared.call.Reply.TheVariants.{Done}
 use Rattle.zj_layout.specs.declared.fields.Kind.TheVariants.{File}
@@ -32,8 +34,9 @@ use Rattle.zj_dirs.proofs.Walks.{possible_stored}
 use Rattle.zj_tree.specs.declared.call.Reply.TheVariants as replies
 use Rattle.zj_inode.specs.declared.outcome.Outcome.{Outcome}
 use Rattle.zj_inode.specs.declared.outcome.Outcome.TheVariants as outcomes
-use Rattle.zj_inode.specs.Files.{IsAmong, IsUndone, IsWhole, IsWritten, Overwrites, OverwritesIn, PutsSeen, TrimsAround, blocks_up_to}
-use Rattle.zj_inode.specs.Performs.{IsRefused, IsWrittenOver, Looks, Performs}
+use Rattle.zj_inode.specs.Answering.{IsAnswered}
+use Rattle.zj_inode.specs.Files.{IsAmong, IsUndone, Overwrites, OverwritesIn, PutsSeen, TrimsAround, blocks_up_to}
+use Rattle.zj_inode.specs.Performs.{IsRefused, IsWhole, IsWholeWrite, IsWritten, IsWrittenOver, Looks, Performs}
 use Rattle.zj_inode.proofs.Fewer.{fewer_trimmed}
 use Rattle.zj_inode.proofs.Trims.{found_free}
 use Rattle.zj_inode.proofs.Writes.{reached, up_to_some}
@@ -261,3 +264,30 @@ undone_whole sizes found path at count (outcomes.Done (replies.Listed x) written
 undone_whole sizes found path at count (outcomes.Done (replies.Dir x) written) h = h
 undone_whole sizes found path at count (outcomes.Done (replies.File x) written) h = h
 undone_whole sizes found path at count (outcomes.Done (replies.Refused x) written) h = h
+
+-- and so of a call that isn't done, or that is no write
+pub undone_write : (sizes : Numbers) (found : Entries) (call : Call) (o : Outcome) → IsUndone o → IsWholeWrite sizes found call o
+undone_write sizes found (Write path at bytes) o h = undone_whole sizes found path at (length bytes) o h
+undone_write sizes found (calls.Mkdir path) o h = tt
+undone_write sizes found (calls.Create path) o h = tt
+undone_write sizes found (calls.Read path at count) o h = tt
+undone_write sizes found (calls.Truncate path size) o h = tt
+undone_write sizes found (calls.Unlink path) o h = tt
+undone_write sizes found (calls.Rmdir path) o h = tt
+undone_write sizes found (calls.Rename from to) o h = tt
+undone_write sizes found (calls.List path) o h = tt
+undone_write sizes found (calls.Stat path) o h = tt
+undone_write sizes found (calls.Fsync path) o h = tt
+
+pub no_write : (sizes : Numbers) (found : Entries) (call : Call) (o : Outcome) → IsAnswered call → IsWholeWrite sizes found call o
+no_write sizes found (Write path at bytes) o h = absurd h
+no_write sizes found (calls.Mkdir path) o h = tt
+no_write sizes found (calls.Create path) o h = tt
+no_write sizes found (calls.Read path at count) o h = tt
+no_write sizes found (calls.Truncate path size) o h = tt
+no_write sizes found (calls.Unlink path) o h = tt
+no_write sizes found (calls.Rmdir path) o h = tt
+no_write sizes found (calls.Rename from to) o h = tt
+no_write sizes found (calls.List path) o h = tt
+no_write sizes found (calls.Stat path) o h = tt
+no_write sizes found (calls.Fsync path) o h = tt

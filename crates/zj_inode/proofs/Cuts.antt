@@ -1,10 +1,10 @@
 -- A file that is cut, and blocks that a node names and that are freed.
-use Rattle.std.proofs.Common.{◌≡◌, ◌≢◌, ◌⊎◌, inl, inr, ℕ, ◌+◌, ◌-◌, ◌/◌, ◌<◌, ◌≤◌, true, List, length, Some, refl, sym, ap, ◌∙◌, subst, arith, slice_index}
+use Rattle.std.proofs.Common.{◌≡◌, ◌≢◌, ◌⊎◌, inl, inr, ℕ, ◌+◌, ◌-◌, ◌/◌, ◌<◌, ◌≤◌, true, ◌&&◌, leb, ltb, List, length, Some, refl, sym, ap, ◌∙◌, subst, arith, slice_index}
 use Rattle.std.specs.FinMap as map_of
 use Rattle.std.specs.Option.{unwrap_or}
 use native.Mathlib.Decide.{dec_lt}
 use Rattle.zj_block.specs.Lists.{Entries, AreContents}
-use Rattle.zj_block.specs.Sizes.{Numbers}
+use Rattle.zj_block.specs.Sizes.{Numbers, first_data}
 use Rattle.zj_tree.specs.declared.call.Call.{Call}
 use Rattle.zj_tree.specs.declared.call.Call.TheVariants.{Truncate}
 use Rattle.zj_tree.specs.declared.call.Refusal.TheVariants.{PastEnd}
@@ -12,7 +12,7 @@ use Rattle.zj_tree.specs.declared.call.Reply.TheVariants.{Done, Refused}
 use Rattle.zj_layout.specs.declared.fields.Kind.TheVariants.{File, Dir}
 use Rattle.zj_layout.specs.declared.fields.Node.{Node}
 use Rattle.zj_layout.specs.Node.{blocks_needed, is_node, per_block}
-use Rattle.zj_layout.specs.Image.{Image, image_of, free_node, node_of, count_of, number_of}
+use Rattle.zj_layout.specs.Image.{Image, image_of, is_data, free_node, node_of, count_of, number_of}
 use Rattle.zj_layout.specs.Shows.{Changes, put_blocks}
 use Rattle.zj_layout.specs.Stored.{IsStored}
 use Rattle.zj_layout.proofs.Follow.{none_some}
@@ -58,6 +58,15 @@ module _ (sizes : Numbers) (old : Image) (s : IsStored sizes old) (number : ℕ)
   -- a block that it names is one of the image's
   pub block_below : (j : ℕ) → j < blocks_needed node → slice_index node.blocks j < sizes.blocks
   block_below j lt = subst (λ b. b < sizes.blocks) (number_is j) ((s.placed number node_within).in_data j (omega (arith, count_is))).1
+
+  -- and one for data
+  pub named_is_data : (j : ℕ) → j < blocks_needed node → is_data sizes (slice_index node.blocks j) ≡ true
+  named_is_data j lt =
+      let range = (s.placed number node_within).in_data j (omega (arith, count_is)) in
+      both (first_data sizes) (slice_index node.blocks j) sizes.blocks (subst (λ b. first_data sizes ≤ b) (number_is j) range.0) (subst (λ b. b < sizes.blocks) (number_is j) range.1)
+    where
+      both : (a b c : ℕ) → a ≤ b → b < c → (leb a b && ltb b c) ≡ true
+      both a b c h k = grind arith
 
   pub file_count : node.kind ≡ File → count_of old number ≡ (node.size + 511) / 512
   file_count kind = count_is ∙ ap (λ k. (node.size + (per_block k - 1)) / per_block k) kind
@@ -115,7 +124,7 @@ module _ (sizes : Numbers) (found : Entries) (path : List (List ℕ)) (size : �
 
     -- a block that cutting it needs
     cut_foot : (image : Image) → IsAt image path file → (block : ℕ) → IsTruncateBlock sizes image file.number size block → Foot sizes image call block
-    cut_foot image a block (inl (j, le, lt, e)) = map_of_freed (number_of image file.number j) (inl (file.number, j, a.leads, le, lt, refl)) e
+    cut_foot image a block (inl (j, le, lt, e)) = map_of_freed (number_of image file.number j) (inl (file.number, j, record { leads = a.leads; is_file = kind_at image path file a File is }, le, lt, refl)) e
     cut_foot image a block (inr e) = found_node path file.number (0, refl) a.leads e
 
     module _ (built : Changes) (fresh : built ≡ map_of.empty) where

@@ -25,7 +25,7 @@ use Rattle.zj_inode.specs.declared.finding.Target.{Target}
 use Rattle.zj_inode.specs.declared.stopped.Stopped.{Stopped}
 use Rattle.zj_inode.specs.Answering.{CallStops}
 use Rattle.zj_inode.specs.Finding.{IsTarget}
-use Rattle.zj_inode.specs.Footprint.{Foot, on_the_way, found, removed, map_of_freed, FreesOf, HasEntry, IsPathOf, LeadsToDir, Removes as RemovesPath, size_of}
+use Rattle.zj_inode.specs.Footprint.{Foot, on_the_way, found, removed, map_of_freed, FreesOf, HasEntry, IsPathOf, LeadsToDir, Removes as RemovesPath, RemovesEntry, RemovesNode, size_of}
 use Rattle.zj_inode.specs.Removing.{DetachStops, IsLeafNode, IsReleaseBlock}
 use Rattle.zj_inode.proofs.Foots.{last_more, some_names, step_way}
 use Rattle.zj_inode.proofs.Steps.{stops_more}
@@ -68,7 +68,7 @@ module _ (sizes : Numbers) (old between : Image) (s : IsStored sizes old) (front
 
 -- ---- what is needed is in the footprint
 
-module _ (sizes : Numbers) (image : Image) (front : Path') (name : Name') (target : Target) (at : IsTarget image front name target) (call : Call) (of : IsPathOf call (front ++ name ∷ [])) (removes : RemovesPath call (front ++ name ∷ [])) where
+module _ (sizes : Numbers) (image : Image) (front : Path') (name : Name') (target : Target) (at : IsTarget image front name target) (call : Call) (of : IsPathOf call (front ++ name ∷ [])) (removes : RemovesPath call (front ++ name ∷ [])) (gone : RemovesNode call (node_of image target.number)) where
   abbrev path : Path'
   path = front ++ name ∷ []
 
@@ -81,16 +81,18 @@ module _ (sizes : Numbers) (image : Image) (front : Path') (name : Name') (targe
     name = sym (last_more front name);
   }
 
+  removes_entry : RemovesEntry image call target.dir target.place
+  unfolding has_entry
+  removes_entry = record { path = path; removes = removes; entry = has_entry; gone = gone }
+
   pub remove_foot : (block : ℕ) → IsRemoveBlock sizes image target.dir target.place block → Foot sizes image call block
   remove_foot block (of_node e) = on_the_way path of (step_way sizes image front name target.dir block at.leads (inl e))
-  remove_foot block (of_entry e) = removed path target.dir target.place removes has_entry (inl e)
-  remove_foot block (of_last last is e) = let place : last ≡ size_of image target.dir - 1 = omega (arith, is) in removed path target.dir target.place removes has_entry (inr (e ∙ ap (item_block image target.dir) place))
+  remove_foot block (of_entry e) = removed target.dir target.place removes_entry (inl e)
+  remove_foot block (of_last last is e) = let place : last ≡ size_of image target.dir - 1 = omega (arith, is) in removed target.dir target.place removes_entry (inr (e ∙ ap (item_block image target.dir) place))
   remove_foot block (map_of_last last is alone e) = let place : last ≡ size_of image target.dir - 1 = omega (arith, is) in map_of_freed (item_block image target.dir last) (inr (record {
-    path = path;
-    removes = removes;
     dir = target.dir;
     place = target.place;
-    entry = has_entry;
+    entry = removes_entry;
     alone = omega (arith, is, alone);
     last = ap (item_block image target.dir) place;
   })) e
@@ -101,9 +103,9 @@ module _ (sizes : Numbers) (image : Image) (front : Path') (name : Name') (targe
   detach_foot frees block (inr (inl (j, lt, e))) = map_of_freed (number_of image target.number j) (inl (frees j lt)) e
   detach_foot frees block (inr (inr e)) = found path target.number of (target_leads image front name target at) e
 
-pub detach_stops : (sizes : Numbers) (blocks : Entries) (front : Path') (name : Name') (target : Target) (call : Call) → Always sizes blocks (λ image. IsTarget image front name target) → IsPathOf call (front ++ name ∷ []) → RemovesPath call (front ++ name ∷ [])
+pub detach_stops : (sizes : Numbers) (blocks : Entries) (front : Path') (name : Name') (target : Target) (call : Call) → Always sizes blocks (λ image. IsTarget image front name target) → IsPathOf call (front ++ name ∷ []) → RemovesPath call (front ++ name ∷ []) → Always sizes blocks (λ image. RemovesNode call (node_of image target.number))
     → Always sizes blocks (λ image. (j : ℕ) → j < count_of image target.number → FreesOf image call (number_of image target.number j)) → (s : Stopped) → DetachStops sizes blocks target s → CallStops sizes blocks call s
-detach_stops sizes blocks front name target call at of removes frees s h =
+detach_stops sizes blocks front name target call at of removes gone frees s h =
     stops_more sizes blocks (λ image b. IsRemoveBlock sizes image target.dir target.place b ⊎ IsReleaseBlock sizes image target.number b) (λ image b. Foot sizes image call b)
     (λ state tree r. ⊥) (λ state tree r. Answers sizes call (replies.Refused r) tree state)
-    (λ state tree p b w. detach_foot sizes (image_of sizes state) front name target (at state tree p) call of removes (frees state tree p) b w) (λ state tree p r no_. absurd no_) s h
+    (λ state tree p b w. detach_foot sizes (image_of sizes state) front name target (at state tree p) call of removes (gone state tree p) (frees state tree p) b w) (λ state tree p r no_. absurd no_) s h

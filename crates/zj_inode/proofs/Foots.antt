@@ -125,20 +125,20 @@ module _ (sizes : Numbers) (image : Image) (kind : Kind) (front : Path') (name :
         by File = (path, dir, refl, adds_entry, few, one)
         by Dir = (path, dir, refl, adds_entry, few, one)
 
-    last_foot : (block : ℕ) → size_of image dir % 16 ≢ 0 → block ≡ number_of image dir (size_of image dir / 16) → Foot sizes image (making kind path) block
-    last_foot block room e = by kind
+    last_foot : (block : ℕ) → size_of image dir < 192 → size_of image dir % 16 ≢ 0 → block ≡ number_of image dir (size_of image dir / 16) → Foot sizes image (making kind path) block
+    last_foot block few room e = by kind
       where
         at : item_block image dir (size_of image dir - 1) ≡ number_of image dir (size_of image dir / 16)
         at = ap (λ k. number_of image dir ((size_of image dir - 1) / per_block k)) is_dir ∙ ap (number_of image dir) (omega (arith, room))
 
         by : (k : Kind) → Foot sizes image (making k path) block
-        by Free = last_of_parent path dir refl adds_entry (omega (arith, room)) (e ∙ sym at)
-        by File = last_of_parent path dir refl adds_entry (omega (arith, room)) (e ∙ sym at)
-        by Dir = last_of_parent path dir refl adds_entry (omega (arith, room)) (e ∙ sym at)
+        by Free = last_of_parent path dir refl adds_entry few (omega (arith, room)) (e ∙ sym at)
+        by File = last_of_parent path dir refl adds_entry few (omega (arith, room)) (e ∙ sym at)
+        by Dir = last_of_parent path dir refl adds_entry few (omega (arith, room)) (e ∙ sym at)
 
     pub make_place_foot : (block : ℕ) → IsPlaceBlock sizes image dir block → Foot sizes image (making kind path) block
     make_place_foot block (of_node e) = make_step_foot dir block leads (inl e)
-    make_place_foot block (of_last (few, room) e) = last_foot block room e
+    make_place_foot block (of_last (few, room) e) = last_foot block few room e
     make_place_foot block (of_map (few, whole) (lt, none)) = map_of_new 1 (needs_one few whole) lt (none_below image (512 * block) none)
     make_place_foot block (of_new (few, whole) lowest) = new 1 (needs_one few whole) lowest.1 lowest.0 (none_below image block lowest.2)
     make_place_foot block (map_of_placed x (few, whole) lowest e) =

@@ -8,6 +8,7 @@ pub mod Makes
 pub mod MakeStops
 pub mod Moving
 pub mod MovingOver
+pub mod Needed
 pub mod Overwrites
 pub mod Ranged
 pub mod Releases

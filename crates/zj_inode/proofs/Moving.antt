@@ -72,7 +72,7 @@ module _ (sizes : Numbers) (found : Entries) (from to : Path') (old : Target) (t
 
     -- a block that is needed to remove the entry
     pub removal_foot : (block : ℕ) → IsRemoveBlock sizes im old.dir old.place block → Foot sizes im call block
-    removal_foot block h = subst (λ q. Foot sizes im (Rename q to) block) (sym m.from_is) (remove_foot sizes im m.front m.name old at (Rename (m.front ++ m.name ∷ []) to) (0, refl) refl block h)
+    removal_foot block h = subst (λ q. Foot sizes im (Rename q to) block) (sym m.from_is) (remove_foot sizes im m.front m.name old at (Rename (m.front ++ m.name ∷ []) to) (0, refl) refl tt block h)
 
     -- ---- once the entry is removed
 
@@ -167,7 +167,7 @@ module _ (sizes : Numbers) (found : Entries) (from to : Path') (old : Target) (t
         place_foot block (of_node e) = on_the_way to (1, refl) (subst (λ q. IsOnTheWay sizes im q block) (sym m.to_is) (step_way sizes im m.to_front link.name to_dir block t.leads (inl e)))
         place_foot block (of_last (few, some) e) =
             let last = last_was some (ℕ_discrete to_dir old.dir) in
-            last_of_parent to to_dir refl adds last.0 (e ∙ last.1 ∙ sym (ap (λ k. number_of im to_dir ((size_of im to_dir - 1) / per_block k)) t.directory))
+            last_of_parent to to_dir refl adds (room few (ℕ_discrete to_dir old.dir)) last.0 (e ∙ last.1 ∙ sym (ap (λ k. number_of im to_dir ((size_of im to_dir - 1) / per_block k)) t.directory))
         place_foot block (of_map filled (lt, none)) = map_of_new 1 (needs_one filled) lt (none_below im (512 * block) (λ lower less. used_before lower (none lower less)))
         place_foot block (of_new filled (lt, free, none)) = by (ℕ_discrete (im.map block) 0)
           where

@@ -1,5 +1,5 @@
 -- An entry that moves onto another one.
-use Rattle.std.proofs.Common.{◌≡◌, ◌≢◌, ◌⊎◌, inl, inr, ℕ, ◌/◌, ◌<◌, Some, refl, sym, ap, ◌∙◌, subst, arith, slice_index}
+use Rattle.std.proofs.Common.{◌≡◌, ◌≢◌, ◌⊎◌, inl, inr, ℕ, ◌+◌, ◌-◌, ◌/◌, ◌<◌, Some, refl, sym, ap, ◌∙◌, subst, arith, slice_index}
 use Rattle.std.specs.FinMap as map_of
 use Rattle.std.specs.Option.{option_and_then, unwrap_or}
 use Rattle.zj_block.specs.Lists.{Entries}
@@ -15,7 +15,7 @@ use Rattle.zj_layout.specs.declared.fields.Link.{Link}
 use Rattle.zj_layout.specs.declared.fields.Node.{Node}
 use Rattle.zj_layout.specs.Graph.{follow, step}
 use Rattle.zj_layout.specs.Node.{blocks_needed, per_block}
-use Rattle.zj_layout.specs.Image.{State, Image, image_of, graph_of, free_node, node_of, node_block, map_block, number_of, item_block}
+use Rattle.zj_layout.specs.Image.{State, Image, image_of, graph_of, free_node, node_of, node_block, map_block, count_of, number_of, item_block}
 use Rattle.zj_layout.specs.Rules.{HasPlace}
 use Rattle.zj_layout.specs.Shows.{Changes, put_blocks}
 use Rattle.zj_layout.specs.Stored.{IsStored}
@@ -97,10 +97,6 @@ module _ (sizes : Numbers) (found : Entries) (from to : Path') (old : Target) (t
               absurd (omega (arith, lt, one));
         }
 
-    release_foot : (block : ℕ) → IsReleaseBlock sizes im onto.node block → Foot sizes im call block
-    release_foot block (inl (j, lt, e)) = map_of_freed (number_of im onto.node j) (inl (onto.node, j, onto_leads, lt, refl)) e
-    release_foot block (inr e) = found_node to onto.node (1, refl) onto_leads e
-
   pub node_stops : (s : Stop) → dirs.Stops sizes found map_of.empty (λ image b. b ≡ node_block sizes onto.node) s → CallStops sizes found call (stopped_by s)
   node_stops = stops_looking sizes found (λ image b. b ≡ node_block sizes onto.node) (λ image b. Foot sizes image call b) (λ state tree r. Answers sizes call (Refused r) tree state) (λ state tree p b e. found_node to onto.node (1, refl) (onto_leads state tree p) e)
 
@@ -151,6 +147,15 @@ module _ (sizes : Numbers) (found : Entries) (from to : Path') (old : Target) (t
         → second.node onto.node ≡ Some node
     second_node fits state tree p first second a r = r.is.others onto.node (apart fits state tree p) ∙ a.node onto.node ∙ is state tree p
 
+    -- a node that may be replaced and names a block is a file
+    release_foot : FitsOver old.node node → (state : State) (tree : FileTree) → IsPossible sizes found state tree → (block : ℕ) → IsReleaseBlock sizes (image_of sizes state) onto.node block → Foot sizes (image_of sizes state) call block
+    release_foot fits state tree p block (inr e) = found_node to onto.node (1, refl) (onto_leads state tree p) e
+    release_foot (inl (a, b)) state tree p block (inl (j, lt, e)) = map_of_freed (number_of (image_of sizes state) onto.node j) (inl (onto.node, j, record { leads = onto_leads state tree p; is_file = onto_kind state tree p File b }, lt, refl)) e
+    release_foot (inr (a, b, none)) state tree p block (inl (j, lt, e)) =
+        let image = image_of sizes state in
+        let count : count_of image onto.node ≡ ((node_of image onto.node).size + 15) / 16 = ap (λ k. ((node_of image onto.node).size + (per_block k - 1)) / per_block k) (onto_kind state tree p Dir b) in
+        absurd (omega (arith, count, ap (λ (n : Node). n.size) (onto_is state tree p), none, lt))
+
     -- ---- where the steps stop
 
     module _ (built : Changes) (fresh : built ≡ map_of.empty) where
@@ -178,7 +183,7 @@ module _ (sizes : Numbers) (found : Entries) (from to : Path') (old : Target) (t
       module _ (second : Changes) (kept' : KeepsFound found second) (fits : FitsOver old.node node) (removes : (state : State) (tree : FileTree) → IsPossible sizes found state tree → Removes sizes (image_of sizes (put_blocks state first)) (image_of sizes (put_blocks state second)) old.dir old.place) where
         pub release_stops : (s : Stopped) → ReleaseStops sizes found second onto.node s → CallStops sizes found call s
         release_stops = stops_after sizes found second (λ image b. IsReleaseBlock sizes image onto.node b) (λ image b. Foot sizes image call b) (λ state tree r. ⊥) (λ state tree r. Answers sizes call (Refused r) tree state) kept'
-            (λ state tree p b h. release_foot state tree p b (release_same sizes (image_of sizes state) (image_of sizes (put_blocks state second)) onto.node (same state tree p) b h)) (λ state tree p r no_. absurd no_)
+            (λ state tree p b h. release_foot fits state tree p b (release_same sizes (image_of sizes state) (image_of sizes (put_blocks state second)) onto.node (same state tree p) b h)) (λ state tree p r no_. absurd no_)
           where
             same : (state : State) (tree : FileTree) → IsPossible sizes found state tree → node_of (image_of sizes (put_blocks state second)) onto.node ≡ node_of (image_of sizes state) onto.node
             same state tree p = ap (λ o. unwrap_or o free_node) ((removes state tree p).is.others onto.node (apart fits state tree p)) ∙ same_node state tree p onto.node

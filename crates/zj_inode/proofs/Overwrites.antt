@@ -29,7 +29,7 @@ use Rattle.zj_inode.specs.declared.stopped.Stopped.TheVariants as stopped
 use Rattle.zj_inode.specs.Answering.{CallStops, stopped_at}
 use Rattle.zj_inode.specs.Files.{HasWritten, IsWriteBlock, of_range, of_map, of_new, LacksSpace, OverwritesIn, Overwrites, WriteStops, WritesFirst, blocks_more, blocks_up_to}
 use Rattle.zj_inode.specs.Finding.{FileStops, IsAt, IsWayBlock}
-use Rattle.zj_inode.specs.Footprint.{Foot, in_range, map_of_new, new, found as found_node}
+use Rattle.zj_inode.specs.Footprint.{Foot, LeadsToFile, NeedsBlocks, in_range, map_of_new, new, found as found_node}
 use Rattle.zj_inode.proofs.Cuts.{node_within, not_root}
 use Rattle.zj_inode.proofs.Foots.{way_foot}
 use Rattle.zj_inode.proofs.Makes.{shape_after}
@@ -96,11 +96,17 @@ module _ (sizes : Numbers) (found : Entries) (path : List (List ℕ)) (at : ℕ)
           write_too_big sizes state tree p.shows path at bytes file.number (is_at state tree p).leads (kind_is state tree p) (omega (arith, size_is state tree p, within))
           (inr (omega (arith, long, ap longest_file p.shows.shape.limits.one_version)))
 
+      to_file : (image : Image) → IsAt image path file → LeadsToFile image path file.number
+      to_file image a = record { leads = a.leads; is_file = kind_at image path file a File is }
+
+      needs : (image : Image) → IsAt image path file → to ≤ 6144 → NeedsBlocks image call (blocks_more image file.number to)
+      needs image a fits = (file.number, to_file image a, omega (arith, size_at image path file a, within), fits, refl)
+
       -- a block that writing needs
-      write_foot : (image : Image) → IsAt image path file → (block : ℕ) → IsWriteBlock sizes image file.number at to block → Foot sizes image call block
-      write_foot image a block (of_range k le lt there e) = in_range path file.number k (0, refl) a.leads le lt there e
-      write_foot image a block (of_map lt few) = map_of_new (blocks_more image file.number to) (file.number, a.leads, refl) lt few
-      write_foot image a block (of_new free lt few) = new (blocks_more image file.number to) (file.number, a.leads, refl) free lt few
+      write_foot : (image : Image) → IsAt image path file → to ≤ 6144 → (block : ℕ) → IsWriteBlock sizes image file.number at to block → Foot sizes image call block
+      write_foot image a fits block (of_range k le lt there e) = in_range path file.number k (0, refl) (to_file image a) le lt there e
+      write_foot image a fits block (of_map lt few) = map_of_new (blocks_more image file.number to) (needs image a fits) lt few
+      write_foot image a fits block (of_new free lt few) = new (blocks_more image file.number to) (needs image a fits) free lt few
 
       module _ (built : Changes) (fresh : built ≡ map_of.empty) (few : length bytes ≤ most_bytes) (fits : to ≤ 6144) where
         cause : (state : State) (tree : FileTree) → IsPossible sizes found state tree → (r : Refusal) → (r ≡ NoSpace) × LacksSpace sizes (image_of sizes state) file.number to → Answers sizes call (Refused r) tree state
@@ -113,7 +119,7 @@ module _ (sizes : Numbers) (found : Entries) (path : List (List ℕ)) (at : ℕ)
         blocks_stop = stops_after sizes found built (λ image block. IsWriteBlock sizes image file.number at to block) (λ image block. Foot sizes image call block)
             (λ state tree r. (r ≡ NoSpace) × LacksSpace sizes (image_of sizes state) file.number to) (λ state tree r. Answers sizes call (Refused r) tree state)
             (fresh_kept sizes found built fresh)
-            (λ state tree p b h. write_foot (image_of sizes state) (is_at state tree p) b (subst (λ i. IsWriteBlock sizes i file.number at to b) (same_image sizes found built fresh state) h))
+            (λ state tree p b h. write_foot (image_of sizes state) (is_at state tree p) fits b (subst (λ i. IsWriteBlock sizes i file.number at to b) (same_image sizes found built fresh state) h))
             (λ state tree p r h. cause state tree p r (h.0, subst (λ i. LacksSpace sizes i file.number to) (same_image sizes found built fresh state) h.1))
 
         module _ (mid : Changes) (kept : KeepsContents found built mid) where

@@ -20,7 +20,7 @@ use Rattle.zj_dirs.specs.declared.answers.Stop.TheVariants as stop
 use Rattle.zj_dirs.specs.declared.answers.Halt.{Halt}
 use Rattle.zj_dirs.specs.declared.answers.Halt.TheVariants as halt
 use Rattle.zj_dirs.specs.Possible as dirs
-use Rattle.zj_dirs.specs.Possible.{IsPossible, Always, Halts, KeepsContents, Made, Turns, overlaid}
+use Rattle.zj_dirs.specs.Possible.{IsOdd, IsPossible, Always, Halts, KeepsContents, Made, Turns, overlaid}
 use Rattle.zj_dirs.specs.Walking.{LacksName, MeetsFile}
 use Rattle.zj_dirs.proofs.Looks.{overlaid_nothing}
 use Rattle.zj_dirs.proofs.Walks.{leads_live, possible_stored, put_nothing}
@@ -79,6 +79,13 @@ pub after_at : (sizes : Numbers) (found : Entries) (before after : Changes) (Par
 after_at sizes found before after Part Whole All kept due (halt.Need block) h = (kept block.0 h.0, λ state tree p. due state tree p block.0 (h.1 state tree p))
 after_at sizes found before after Part Whole All kept due halt.Odd h = h
 after_at sizes found before after Part Whole All kept due halt.NoMemory h = h
+
+-- where no state is possible
+pub odd_says : (sizes : Numbers) (found : Entries) (Due : Image → ℕ → Type 0) (Cause : Causes) (s : Stop) → s ≡ stop.Odd → IsOdd sizes found → StopSays sizes found Due Cause (stopped_by s)
+odd_says sizes found Due Cause s e odd = subst (λ x. StopSays sizes found Due Cause (stopped_by x)) (sym e) odd
+
+pub odd_after : (sizes : Numbers) (found : Entries) (written : Changes) (Due : Image → ℕ → Type 0) (Cause : Causes) (s : Stop) → s ≡ stop.Odd → IsOdd sizes found → AfterSays sizes found written Due Cause (stopped_by s)
+odd_after sizes found written Due Cause s e odd = subst (λ x. AfterSays sizes found written Due Cause (stopped_by x)) (sym e) odd
 
 -- a look before any change
 pub found_kept : (found : Entries) → KeepsFound found map_of.empty

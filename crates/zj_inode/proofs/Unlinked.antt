@@ -82,11 +82,16 @@ module _ (sizes : Numbers) (found : Entries) (path front : Path') (name : Name')
         answers_whole (λ q. Rmdir q) (replies.Refused NotEmpty) tree state
         (rmdir_not_empty sizes state tree p.shows joined target.number (target_leads image front name target (at state tree p)) (target_kind image front name target (at state tree p) Dir kind) (some_names front name) (omega (arith, size_is state tree p, some)))
 
-    pub unlink_stops : (s : Stopped) → DetachStops sizes found target s → CallStops sizes found (Unlink path) s
-    unlink_stops s h = stops_whole (λ q. Unlink q) s (detach_stops sizes found front name target (Unlink joined) at (0, refl) refl (λ state tree p j lt. (target.number, j, target_leads (image_of sizes state) front name target (at state tree p), lt, refl)) s h)
+    pub unlink_stops : target.node.kind ≡ File → (s : Stopped) → DetachStops sizes found target s → CallStops sizes found (Unlink path) s
+    unlink_stops kind s h = stops_whole (λ q. Unlink q) s (detach_stops sizes found front name target (Unlink joined) at (0, refl) refl file
+        (λ state tree p j lt. (target.number, j, record { leads = target_leads (image_of sizes state) front name target (at state tree p); is_file = file state tree p }, lt, refl)) s h)
+      where
+        file : Always sizes found (λ image. (node_of image target.number).kind ≡ File)
+        file state tree p = target_kind (image_of sizes state) front name target (at state tree p) File kind
 
     pub rmdir_stops : target.node.kind ≡ Dir → target.node.size ≡ 0 → (s : Stopped) → DetachStops sizes found target s → CallStops sizes found (Rmdir path) s
-    rmdir_stops kind empty s h = stops_whole (λ q. Rmdir q) s (detach_stops sizes found front name target (Rmdir joined) at (0, refl) refl (λ state tree p j lt. none state tree p j lt) s h)
+    rmdir_stops kind empty s h = stops_whole (λ q. Rmdir q) s (detach_stops sizes found front name target (Rmdir joined) at (0, refl) refl
+        (λ state tree p. (target_kind (image_of sizes state) front name target (at state tree p) Dir kind, size_is state tree p ∙ empty)) (λ state tree p j lt. none state tree p j lt) s h)
       where
         none : (state : State) (tree : FileTree) → IsPossible sizes found state tree → (j : ℕ) → j < count_of (image_of sizes state) target.number → ⊥
         none state tree p j lt =

@@ -14,7 +14,7 @@ use Rattle.zj_layout.proofs.Live.{led_live}
 use Rattle.zj_layout.proofs.Sound.{link_place, none_count}
 use Rattle.zj_dirs.specs.Walking.{IsStepBlock}
 use Rattle.zj_dirs.proofs.Walks.{possible_stored, possible_rooted}
-use Rattle.zj_inode.specs.Footprint.{Foot, the_root, on_the_way, found, listed, in_range, last_of_parent, removed, free_node, map_of_freed, map_of_new, new, FreesOf, HasEntry, Shrinks, size_of}
+use Rattle.zj_inode.specs.Footprint.{Foot, the_root, on_the_way, found, listed, in_range, last_of_parent, removed, free_node, map_of_freed, map_of_new, new, FreesOf, RemovesEntry, Shrinks, size_of}
 use Rattle.zj_inode.specs.Laws.{FootprintIsWithin}
 use native.Mathlib.Decide.{dec_lt}
 
@@ -58,8 +58,8 @@ module _ (sizes : Numbers) (state : State) (tree : FileTree) (shows : Shows size
   step_within dir name block below (inl e) = subst (λ b. b < sizes.blocks) (sym e) (node_within dir below)
   step_within dir name block below (inr s) = subst (λ b. b < sizes.blocks) s.is (item_at dir s.place s.has.within)
 
-  entry_within : (path : List (List ℕ)) (dir place : ℕ) → HasEntry im path dir place → place < size_of im dir
-  entry_within path dir place has = (link_place im dir place has.link has.stands).0.within
+  entry_within : (call : Call) (dir place : ℕ) → RemovesEntry im call dir place → place < size_of im dir
+  entry_within call dir place r = (link_place im dir place r.entry.link r.entry.stands).0.within
 
   freed_within : (call : Call) (block : ℕ) → FreesOf im call block → block < sizes.blocks
   freed_within (calls.Unlink path) block (node, j, leads, lt, e) = subst (λ b. b < sizes.blocks) e (number_within node j lt)
@@ -75,7 +75,7 @@ module _ (sizes : Numbers) (state : State) (tree : FileTree) (shows : Shows size
   freed_within (calls.Fsync path) block f = absurd f
 
   shrunk_within : (call : Call) (block : ℕ) → Shrinks im call block → block < sizes.blocks
-  shrunk_within call block s = subst (λ b. b < sizes.blocks) (sym s.last) (last_at s.dir s.place (entry_within s.path s.dir s.place s.entry))
+  shrunk_within call block s = subst (λ b. b < sizes.blocks) (sym s.last) (last_at s.dir s.place (entry_within call s.dir s.place s.entry))
 
   foot_within : (call : Call) (block : ℕ) → Foot sizes im call block → block < sizes.blocks
   foot_within call block (the_root e) = subst (λ b. b < sizes.blocks) (sym e) root_within
@@ -83,9 +83,9 @@ module _ (sizes : Numbers) (state : State) (tree : FileTree) (shows : Shows size
   foot_within call block (found path node of leads e) = subst (λ b. b < sizes.blocks) (sym e) (node_within node (led_within path node leads))
   foot_within call block (listed path dir place is leads has e) = subst (λ b. b < sizes.blocks) (sym e) (item_at dir place has.within)
   foot_within call block (in_range path node k of leads low high has e) = subst (λ b. b < sizes.blocks) (sym e) (number_within node (k / per_block (node_of im node).kind) has)
-  foot_within call block (last_of_parent path dir adds entry some e) = subst (λ b. b < sizes.blocks) (sym e) (last_at dir 0 some)
-  foot_within call block (removed path dir place removes has (inl e)) = subst (λ b. b < sizes.blocks) (sym e) (item_at dir place (entry_within path dir place has))
-  foot_within call block (removed path dir place removes has (inr e)) = subst (λ b. b < sizes.blocks) (sym e) (last_at dir place (entry_within path dir place has))
+  foot_within call block (last_of_parent path dir adds entry room some e) = subst (λ b. b < sizes.blocks) (sym e) (last_at dir 0 some)
+  foot_within call block (removed dir place r (inl e)) = subst (λ b. b < sizes.blocks) (sym e) (item_at dir place (entry_within call dir place r))
+  foot_within call block (removed dir place r (inr e)) = subst (λ b. b < sizes.blocks) (sym e) (last_at dir place (entry_within call dir place r))
   foot_within call block (free_node path dir k makes adds room lt e none) = omega (arith, limits.some_data)
   foot_within call block (map_of_freed freed (inl f) e) = subst (λ b. b < sizes.blocks) (sym e) (map_within freed (freed_within call freed f))
   foot_within call block (map_of_freed freed (inr s) e) = subst (λ b. b < sizes.blocks) (sym e) (map_within freed (shrunk_within call freed s))

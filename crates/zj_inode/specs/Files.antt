@@ -137,18 +137,6 @@ pub record TrimsAround (found : Entries) (built : Changes) (blocks : List ℕ) (
   pub taken : AllTaken found built → AllTaken found after
   pub range : (k : ℕ) → low ≤ k → k < high → overlaid found built (slice_index blocks k) ≢ None → IsSome (map_of.get after (slice_index blocks k))
 
--- the block with a byte of a file has a new content, and zeros behind the end if it was free
-pub record IsWritten (old new : Image) (written : Changes) (file to k : ℕ) : Type 0 where
-  pub whole : IsSome (map_of.get written (item_block new file k))
-  pub zeros : old.map (item_block new file k) ≡ 0 → (i : ℕ) → i < 512 → to ≤ 512 * (k / 512) + i → byte_in (new.content (item_block new file k)) i ≡ 0
-
--- In every possible state each block of a range that is written has a new content, and one that was free has zeros behind
--- the range.
-abbrev pub IsWhole : Numbers → Entries → List (List ℕ) → ℕ → ℕ → Outcome → Type 0
-IsWhole sizes found path at count (outcomes.Done Done written) =
-    (state : State) (tree : FileTree) → IsPossible sizes found state tree → (file k : ℕ) → follow (graph_of (image_of sizes state)) 0 path ≡ Some file → at ≤ k → k < at + count → IsWritten (image_of sizes state) (image_of sizes (put_blocks state written)) written file (at + count) k
-IsWhole sizes found path at count _ = Unit {0}
-
 -- the answer isn't that a call is done
 abbrev pub IsUndone : Outcome → Type 0
 IsUndone (outcomes.Done Done written) = ⊥

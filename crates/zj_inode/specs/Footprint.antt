@@ -9,6 +9,7 @@ use Rattle.zj_tree.specs.Path.{parent, last_name, same_path}
 use Rattle.zj_tree.specs.Tree.{blocks_for}
 use Rattle.zj_layout.specs.declared.fields.Kind.TheVariants as kinds
 use Rattle.zj_layout.specs.declared.fields.Link.{Link}
+use Rattle.zj_layout.specs.declared.fields.Node.{Node}
 use Rattle.zj_layout.specs.Node.{per_block}
 use Rattle.zj_layout.specs.Graph.{follow, step, link_at}
 use Rattle.zj_layout.specs.Image.{Image, graph_of, node_of, node_block, map_block, item_block, count_of, number_of}
@@ -19,13 +20,17 @@ use Rattle.zj_dirs.specs.Walking.{IsOnTheWay}
 abbrev pub IsPathOf : Call → List (List ℕ) → Type 0
 IsPathOf call path = (k : ℕ) × (slice_get (paths_of call) k ≡ Some path)
 
--- a path leads to a node, and to a directory
+-- a path leads to a node, to a directory, and to a file
 abbrev pub LeadsTo : Image → List (List ℕ) → ℕ → Type 0
 LeadsTo image path node = follow (graph_of image) 0 path ≡ Some node
 
 pub record LeadsToDir (image : Image) (path : List (List ℕ)) (dir : ℕ) : Type 0 where
   pub leads : LeadsTo image path dir
   pub directory : (node_of image dir).kind ≡ kinds.Dir
+
+pub record LeadsToFile (image : Image) (path : List (List ℕ)) (file : ℕ) : Type 0 where
+  pub leads : LeadsTo image path file
+  pub is_file : (node_of image file).kind ≡ kinds.File
 
 abbrev pub size_of : Image → ℕ → ℕ
 size_of image node = (node_of image node).size
@@ -57,6 +62,12 @@ Removes (calls.Rmdir path) old = path ≡ old
 Removes (calls.Rename from to) old = from ≡ old
 Removes _ old = ⊥
 
+-- the nodes whose entry a call removes: unlink a file's, rmdir an empty directory's, and rename any
+abbrev pub RemovesNode : Call → Node → Type 0
+RemovesNode (calls.Unlink path) node = node.kind ≡ kinds.File
+RemovesNode (calls.Rmdir path) node = (node.kind ≡ kinds.Dir) × (node.size ≡ 0)
+RemovesNode _ node = Unit {0}
+
 -- an entry of a path stands at a place of a directory
 pub record HasEntry (image : Image) (path : List (List ℕ)) (dir place : ℕ) : Type 0 where
   pub below : 0 < length path
@@ -64,6 +75,13 @@ pub record HasEntry (image : Image) (path : List (List ℕ)) (dir place : ℕ) :
   pub link : Link
   pub stands : link_at (graph_of image) dir place ≡ Some link
   pub name : link.name ≡ last_name path
+
+-- an entry that a call removes
+pub record RemovesEntry (image : Image) (call : Call) (dir place : ℕ) : Type 0 where
+  pub path : List (List ℕ)
+  pub removes : Removes call path
+  pub entry : HasEntry image path dir place
+  pub gone : RemovesNode call (node_of image entry.link.node)
 
 -- how many blocks one item more needs
 abbrev pub one_more : ℕ → ℕ
@@ -79,26 +97,24 @@ abbrev pub size_before : Image → Call → ℕ → ℕ
 size_before image (calls.Rename from to) dir = if same_path (parent from) (parent to) then size_of image dir - 1 else size_of image dir
 size_before image call dir = size_of image dir
 
--- A call needs so many new blocks.
+-- A call needs so many new blocks: a write that is within the file and the longest one, and a new entry that has room.
 abbrev pub NeedsBlocks : Image → Call → ℕ → Type 0
 NeedsBlocks image (calls.Write path at bytes) count =
-    (node : ℕ) × LeadsTo image path node × (count ≡ blocks_for (max (size_of image node) (at + length bytes)) 512 - blocks_for (size_of image node) 512)
+    (file : ℕ) × LeadsToFile image path file × (at ≤ size_of image file) × (at + length bytes ≤ 6144) × (count ≡ blocks_for (max (size_of image file) (at + length bytes)) 512 - blocks_for (size_of image file) 512)
 NeedsBlocks image call count = (path : List (List ℕ)) × (dir : ℕ) × Adds call path × AddsEntry image path dir × HasRoom image call dir × (count ≡ one_more (size_before image call dir))
 
 -- A call frees a block: a file's that is gone or cut, or the last one of a directory that loses the only entry in it.
 pub record Shrinks (image : Image) (call : Call) (block : ℕ) : Type 0 where
-  pub path : List (List ℕ)
-  pub removes : Removes call path
   pub dir : ℕ
   pub place : ℕ
-  pub entry : HasEntry image path dir place
+  pub entry : RemovesEntry image call dir place
   pub alone : size_of image dir % 16 ≡ 1
   pub last : block ≡ item_block image dir (size_of image dir - 1)
 
 abbrev pub FreesOf : Image → Call → ℕ → Type 0
-FreesOf image (calls.Unlink path) block = (node j : ℕ) × LeadsTo image path node × (j < count_of image node) × (number_of image node j ≡ block)
-FreesOf image (calls.Rename from to) block = (node j : ℕ) × LeadsTo image to node × (j < count_of image node) × (number_of image node j ≡ block)
-FreesOf image (calls.Truncate path size) block = (node j : ℕ) × LeadsTo image path node × (blocks_for size 512 ≤ j) × (j < count_of image node) × (number_of image node j ≡ block)
+FreesOf image (calls.Unlink path) block = (file j : ℕ) × LeadsToFile image path file × (j < count_of image file) × (number_of image file j ≡ block)
+FreesOf image (calls.Rename from to) block = (file j : ℕ) × LeadsToFile image to file × (j < count_of image file) × (number_of image file j ≡ block)
+FreesOf image (calls.Truncate path size) block = (file j : ℕ) × LeadsToFile image path file × (blocks_for size 512 ≤ j) × (j < count_of image file) × (number_of image file j ≡ block)
 FreesOf image _ block = ⊥
 
 -- how many blocks below a number are free
@@ -121,9 +137,9 @@ pub data Foot (sizes : Numbers) (image : Image) (call : Call) (block : ℕ) : Ty
   on_the_way : (path : List (List ℕ)) → IsPathOf call path → IsOnTheWay sizes image path block → Foot sizes image call block
   found : (path : List (List ℕ)) (node : ℕ) → IsPathOf call path → LeadsTo image path node → block ≡ node_block sizes node → Foot sizes image call block
   listed : (path : List (List ℕ)) (dir place : ℕ) → call ≡ calls.List path → LeadsTo image path dir → HasPlace image dir place → block ≡ item_block image dir place → Foot sizes image call block
-  in_range : (path : List (List ℕ)) (node k : ℕ) → IsPathOf call path → LeadsTo image path node → (range_of call).0 ≤ k → k < (range_of call).0 + (range_of call).1 → HasBlockFor image node k → block ≡ item_block image node k → Foot sizes image call block
-  last_of_parent : (path : List (List ℕ)) (dir : ℕ) → Adds call path → AddsEntry image path dir → 0 < size_of image dir → block ≡ item_block image dir (size_of image dir - 1) → Foot sizes image call block
-  removed : (path : List (List ℕ)) (dir place : ℕ) → Removes call path → HasEntry image path dir place → (block ≡ item_block image dir place) ⊎ (block ≡ item_block image dir (size_of image dir - 1)) → Foot sizes image call block
+  in_range : (path : List (List ℕ)) (file k : ℕ) → IsPathOf call path → LeadsToFile image path file → (range_of call).0 ≤ k → k < (range_of call).0 + (range_of call).1 → HasBlockFor image file k → block ≡ item_block image file k → Foot sizes image call block
+  last_of_parent : (path : List (List ℕ)) (dir : ℕ) → Adds call path → AddsEntry image path dir → HasRoom image call dir → 0 < size_of image dir → block ≡ item_block image dir (size_of image dir - 1) → Foot sizes image call block
+  removed : (dir place : ℕ) → RemovesEntry image call dir place → (block ≡ item_block image dir place) ⊎ (block ≡ item_block image dir (size_of image dir - 1)) → Foot sizes image call block
   free_node : (path : List (List ℕ)) (dir k : ℕ) → Makes call path → AddsEntry image path dir → HasRoom image call dir → k < node_blocks sizes → block ≡ map_blocks sizes + k
       → ((node : ℕ) → node < 8 * k → (node_of image node).kind ≢ kinds.Free) → Foot sizes image call block
   map_of_freed : (freed : ℕ) → FreesOf image call freed ⊎ Shrinks image call freed → block ≡ map_block freed → Foot sizes image call block

@@ -1,16 +1,17 @@
 -- When blocks that were found, and new contents of some of them, perform a call: in every state that they may be part of.
-use Rattle.std.specs.Prelude.{◌≡◌, ◌≢◌, ◌⊎◌, ℕ, ◌+◌, ◌<◌, ◌≤◌, List, length, Some, None, IsSome}
+use Rattle.std.specs.Prelude.{◌≡◌, ◌≢◌, ◌⊎◌, ℕ, ◌+◌, ◌*◌, ◌/◌, ◌<◌, ◌≤◌, List, length, Some, None, IsSome}
 use Rattle.std.specs.FinMap as map_of
 use Rattle.zj_block.specs.Lists.{Entries, content_under}
 use Rattle.zj_block.specs.Sizes.{Numbers}
 use Rattle.zj_tree.specs.declared.call.Call.{Call}
 use Rattle.zj_tree.specs.declared.call.Call.TheVariants as calls
 use Rattle.zj_tree.specs.declared.call.Reply.{Reply}
-use Rattle.zj_tree.specs.declared.call.Reply.TheVariants.{Refused}
+use Rattle.zj_tree.specs.declared.call.Reply.TheVariants.{Done, Refused}
 use Rattle.zj_tree.specs.Apply.{apply}
 use Rattle.zj_tree.specs.Tree.{FileTree}
 use Rattle.zj_layout.specs.Graph.{follow}
-use Rattle.zj_layout.specs.Image.{State, Image, image_of, graph_of, item_block}
+use Rattle.zj_layout.specs.Image.{State, Image, image_of, graph_of, item_block, node_block}
+use Rattle.zj_layout.specs.Node.{byte_in}
 use Rattle.zj_layout.specs.Shows.{Shows, Changes, put_blocks, limits_of}
 use Rattle.zj_dirs.specs.Possible.{Always, IsOdd, IsPossible}
 use Rattle.zj_inode.specs.Footprint.{Foot}
@@ -55,3 +56,33 @@ abbrev pub OutcomeSays : Numbers → Entries → Call → Outcome → Type 0
 OutcomeSays sizes found call (outcomes.Need block) = (content_under found block.0 ≡ None) × Always sizes found (λ image. Foot sizes image call block.0)
 OutcomeSays sizes found call (outcomes.Done reply written) = Performs sizes found written call reply
 OutcomeSays sizes found call outcomes.Odd = IsOdd sizes found
+
+-- a block that is needed
+abbrev pub Needs : Outcome → ℕ → Type 0
+Needs (outcomes.Need block) number = block.0 ≡ number
+Needs _ number = ⊥
+
+-- Where the block of node 0 was not taken, it is the one that is needed.
+abbrev pub IsRootFirst : Numbers → Entries → Outcome → Type 0
+IsRootFirst sizes found outcome = content_under found (node_block sizes 0) ≡ None → Needs outcome (node_block sizes 0)
+
+-- A block that is needed is one of the image.
+abbrev pub NeedsWithin : Numbers → Outcome → Type 0
+NeedsWithin sizes outcome = (block : ℕ) → Needs outcome block → block < sizes.blocks
+
+-- the block with a byte of a file has a new content, and zeros behind the end if it was free
+pub record IsWritten (old new : Image) (written : Changes) (file to k : ℕ) : Type 0 where
+  pub whole : IsSome (map_of.get written (item_block new file k))
+  pub zeros : old.map (item_block new file k) ≡ 0 → (i : ℕ) → i < 512 → to ≤ 512 * (k / 512) + i → byte_in (new.content (item_block new file k)) i ≡ 0
+
+-- In every possible state each block of a range that is written has a new content, and one that was free has zeros behind
+-- the range.
+abbrev pub IsWhole : Numbers → Entries → List (List ℕ) → ℕ → ℕ → Outcome → Type 0
+IsWhole sizes found path at count (outcomes.Done Done written) =
+    (state : State) (tree : FileTree) → IsPossible sizes found state tree → (file k : ℕ) → follow (graph_of (image_of sizes state)) 0 path ≡ Some file → at ≤ k → k < at + count → IsWritten (image_of sizes state) (image_of sizes (put_blocks state written)) written file (at + count) k
+IsWhole sizes found path at count _ = Unit {0}
+
+-- a write that is done is whole
+abbrev pub IsWholeWrite : Numbers → Entries → Call → Outcome → Type 0
+IsWholeWrite sizes found (calls.Write path at bytes) outcome = IsWhole sizes found path at (length bytes) outcome
+IsWholeWrite sizes found _ outcome = Unit {0}

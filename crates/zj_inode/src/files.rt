@@ -13,8 +13,8 @@ ghost use Rattle.zj_changes.specs.Resized.{FreesBlocks, PutsBytes};
 ghost use Rattle.zj_dirs.specs.Looking.{IsLowestBlock};
 ghost use Rattle.zj_dirs.specs.Possible.{AllTaken, Halts, KeepsContents, Made, Turns, overlaid};
 ghost use Rattle.zj_inode.specs.Answering.{Builds, CallStops, count_written};
-ghost use Rattle.zj_inode.specs.Files.{Cuts, IsTruncateBlock, IsMapOf, IsWhole, Overwrites, PutsInto, PutsSeen, TakeBlockStops, TakesBlock, TrimsAround, WriteStops, WritesFirst, blocks_up_to};
-ghost use Rattle.zj_inode.specs.Performs.{OutcomeSays};
+ghost use Rattle.zj_inode.specs.Files.{Cuts, IsTruncateBlock, IsMapOf, Overwrites, PutsInto, PutsSeen, TakeBlockStops, TakesBlock, TrimsAround, WriteStops, WritesFirst, blocks_up_to};
+ghost use Rattle.zj_inode.specs.Performs.{IsWhole, NeedsWithin, OutcomeSays};
 
 use crate::finding::{Located, go_to_file};
 use crate::finishing::stop;
@@ -23,7 +23,7 @@ use crate::stopped::Stopped;
 use std::alloc::{AllocError, Global};
 use zj_block::{BLOCK_LEN, Block, BlockNo, Sizes, Taken, Written};
 use zj_dirs::answers::Halt;
-use zj_dirs::looking::seen;
+use zj_dirs::looking::{named_data, seen};
 use zj_dirs::searching::free_block;
 use zj_dirs::setting::{set_content, set_map, set_node};
 use zj_dirs::trimming::trim;
@@ -142,6 +142,7 @@ pub(crate) fn free_blocks(
     ensures halt { IfErr result (Halts sizes.now taken.now built.old (λ image block. IsMapOf image of.now.number low high block)) }
 {
     for j in low..high {
+        named_data(sizes, of.node.blocks[j as usize])?;
         set_map(sizes, of.node.blocks[j as usize], false, taken, built)?;
     }
     Ok(())
@@ -157,6 +158,7 @@ pub(crate) fn write(
     taken: &Taken,
 ) -> Result<Outcome, AllocError>
     ensures says { IfOk result (OutcomeSays sizes.now taken.now (calls.Write path.now at bytes.now)) }
+    ensures within { IfOk result (NeedsWithin sizes.now) }
     ensures whole { IfOk result (IsWhole sizes.now taken.now path.now at (length bytes.now)) }
     ensures few { IfOk result (λ outcome. count_written outcome ≤ MAX_RECORD_BLOCKS) }
 {
@@ -171,7 +173,7 @@ pub(crate) fn write(
                 written: trim_around(alloc, taken, &built, &blocks, low, high)?,
             })
         }
-        Err(stopped) => stop(alloc, stopped),
+        Err(stopped) => stop(alloc, sizes, stopped),
     }
 }
 
@@ -281,6 +283,7 @@ fn write_blocks(
     let mut blocks = numbers(&file.node);
     for j in at / len..end {
         if j < had {
+            named_data(sizes, blocks[j as usize])?;
             write_old(sizes, blocks[j as usize], len * j, at, bytes, taken, built)?;
         } else {
             blocks[j as usize] = write_new(sizes, len * j, at, bytes, taken, built)?;

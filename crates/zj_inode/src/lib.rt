@@ -7,7 +7,8 @@
 //!   call leaves. Each new content is of a block that was taken, and differs from what was found or is of a block that was
 //!   free or is written over. A call that is refused, or that only looks, has none.
 //! - `Outcome::Need`: this block was not taken, and the call may take it in every possible state (`specs/Footprint.antt`).
-//!   It is to be taken, and the call performed again.
+//!   It is to be taken, and the call performed again. The first one that any call needs is that of the root's node (`root`),
+//!   and each is a block of the image, also where no state is possible (`within`).
 //! - `Outcome::Odd`: no state is possible.
 //!
 //! Of lists of calls `laws::history_is_run` says: a legal history whose operations perform calls, of one core or of many, is
@@ -18,7 +19,7 @@
 //! goes. Its four clauses are `done` (the built contents answer the call: `Builds`), `taken` (each was taken), `few` (how many
 //! it builds at most) and `stop` (what stops it is the call's own: `CallStops`). `finish` makes the outcome of that, and
 //! leaves out contents that come out as they were found, so it has no more than were built. So a call has room in one
-//! record: a write has at most 37 new contents, any other call 17 (`few`).
+//! record, which has 48 blocks (`few` of `perform`): the private functions say 37 of a write, and 17 of any other call.
 //!
 //! - `finding`: `go_to_node`, `go_to_dir`, `go_to_file` and `go_to_entry` find what names lead to, `entry_of` searches a
 //!   directory.
@@ -26,9 +27,9 @@
 //! - `making`: `make_entry` is mkdir and create; `add_entry` adds an entry to a directory.
 //! - `removing`: `unlink`, `rmdir`; `remove_at` removes an entry, `release` frees a node and its blocks.
 //! - `files`: `truncate`, and `write`, which makes its own outcome: each block of the range that it writes is in it, also
-//!   where it comes out as it was found, and zeros stand behind the end in each block that was free (clause `whole`).
+//!   where it comes out as it was found, and zeros stand behind the end in each block that was free (`whole` of `perform`).
 //! - `renaming`: `rename`; `move_to` moves an entry to a name that is absent, `move_over` onto another entry.
-//! - `performing`: `perform`.
+//! - `performing`: `perform`, which asks for the block of the root's node before it begins.
 #![tactic(auto)]
 
 mod files;

@@ -16,7 +16,7 @@ use crate::finding::{Located, go, go_to_dir, go_to_file, go_to_node};
 use crate::stopped::Stopped;
 use std::alloc::{AllocError, Global};
 use zj_block::{BLOCK_LEN, Block, BlockNo, Sizes, Taken};
-use zj_dirs::looking::read_link;
+use zj_dirs::looking::{named_data, read_link};
 use zj_layout::Kind;
 use zj_tree::tree::MAX_BYTES;
 use zj_tree::{Bytes, Name, Names, Refusal, Reply};
@@ -143,6 +143,7 @@ fn read_range(
     }
     for j in from / len..(to + len - 1) / len {
         let block = BlockNo(file.node.blocks[j as usize]);
+        named_data(sizes, block.0)?;
         let Some(content) = taken.get(block) else {
             return Err(Stopped::Need(block));
         };

@@ -1,11 +1,13 @@
 //! Performing a call over blocks that were taken.
 
-ghost use Rattle.std.specs.Prelude.{◌≡◌, ◌+◌, ◌≤◌, IfErr, IfOk};
+ghost use Rattle.std.specs.Prelude.{◌≡◌, ◌≢◌, ◌+◌, ◌<◌, ◌≤◌, IfErr, IfNone, IfOk, IfSome, None};
 ghost use Rattle.std.specs.FinMap as map_of;
+ghost use Rattle.zj_block.specs.Lists.{content_under};
 ghost use Rattle.zj_block.specs.declared.sizes.TheConstants.{MAX_RECORD_BLOCKS};
+ghost use Rattle.zj_layout.specs.Image.{node_block};
 ghost use Rattle.zj_dirs.specs.Possible.{AllTaken};
 ghost use Rattle.zj_inode.specs.Answering.{Builds, CallStops, IsAnswered, count_written};
-ghost use Rattle.zj_inode.specs.Performs.{OutcomeSays};
+ghost use Rattle.zj_inode.specs.Performs.{IsRootFirst, IsWholeWrite, NeedsWithin, OutcomeSays};
 
 use crate::files::{truncate, write};
 use crate::finishing::finish;
@@ -16,12 +18,14 @@ use crate::removing::{rmdir, unlink};
 use crate::renaming::rename;
 use crate::stopped::Stopped;
 use std::alloc::{AllocError, Global};
-use zj_block::{Sizes, Taken, Written};
+use zj_block::{BlockNo, Sizes, Taken, Written};
 use zj_layout::Kind;
 use zj_tree::{Call, Reply};
 
-/// Performs a call over the blocks that were taken, or tells which block it needs besides. It writes nothing: the new
-/// contents are in the outcome, no more than one record holds.
+/// Performs a call over the blocks that were taken, or tells which block it needs besides: first of all that of the root's
+/// node, whatever the call is. It writes nothing: the new contents are in the outcome, no more than one record holds.
+///
+/// The outcome is `Odd` only where the blocks are part of no state that shows a tree. `AllocError`: no memory was at hand.
 pub fn perform(
     alloc: Global,
     sizes: &Sizes,
@@ -29,14 +33,32 @@ pub fn perform(
     taken: &Taken,
 ) -> Result<Outcome, AllocError>
     ensures says { IfOk result (OutcomeSays sizes.now taken.now call.now) }
+    ensures root { IfOk result (IsRootFirst sizes.now taken.now) }
+    ensures within { IfOk result (NeedsWithin sizes.now) }
+    ensures whole { IfOk result (IsWholeWrite sizes.now taken.now call.now) }
     ensures few { IfOk result (λ outcome. count_written outcome ≤ MAX_RECORD_BLOCKS) }
 {
+    if let Some(block) = untaken_root(sizes, taken) {
+        return Ok(Outcome::Need(block));
+    }
     if let Call::Write { path, at, bytes } = call {
         return write(alloc, sizes, path.as_slice(), *at, bytes, taken);
     }
     let mut built = Written::new(alloc);
     let answered = answer(alloc, sizes, call, taken, &mut built);
-    finish(alloc, taken, &built, answered)
+    finish(alloc, sizes, taken, &built, answered)
+}
+
+/// The block of the root's node, which is node 0, where it was not taken.
+fn untaken_root(sizes: &Sizes, taken: &Taken) -> Option<BlockNo>
+    ensures some { IfSome result (λ block. (block.0 ≡ node_block sizes.now 0) × (content_under taken.now block.0 ≡ None) × (block.0 < sizes.now.blocks)) }
+    ensures none { IfNone result (content_under taken.now (node_block sizes.now 0) ≢ None) }
+{
+    let block = BlockNo(sizes.map_blocks());
+    match taken.get(block) {
+        Some(_found) => None,
+        None => Some(block),
+    }
 }
 
 /// What a call but write answers, with the new contents that it builds. After an error they are to be dropped.

@@ -20,6 +20,7 @@ use crate::stopped::Stopped;
 use zj_block::{BLOCK_LEN, Sizes, Taken, Written};
 use zj_dirs::answers::Change;
 use zj_dirs::changing::remove;
+use zj_dirs::looking::named_data;
 use zj_dirs::setting::{set_map, set_node};
 use zj_layout::{Kind, LINKS_PER_BLOCK, Node};
 use zj_tree::{Name, Refusal, Reply};
@@ -143,6 +144,7 @@ pub(crate) fn release(
     ensures stop { IfErr result (ReleaseStops sizes.now taken.now built.old number) }
 {
     for j in 0..block_count(node) {
+        named_data(sizes, node.blocks[j as usize])?;
         set_map(sizes, node.blocks[j as usize], false, taken, built)?;
     }
     Ok(set_node(sizes, number, &empty(Kind::Free), taken, built)?)

@@ -23,7 +23,7 @@ use crate::removing::{release, remove_at};
 use crate::stopped::Stopped;
 use zj_block::{BlockNo, Sizes, Taken, Written};
 use zj_dirs::answers::Halt;
-use zj_dirs::looking::{read_node, seen};
+use zj_dirs::looking::{named_data, read_node, seen};
 use zj_dirs::setting::set_content;
 use zj_layout::{Kind, LINKS_PER_BLOCK, Link, Node, put_link};
 use zj_tree::{Name, Refusal, Reply};
@@ -207,6 +207,7 @@ fn replace(
         return Err(Halt::Odd);
     }
     let block = dir.node.blocks[(place / LINKS_PER_BLOCK) as usize];
+    named_data(sizes, block)?;
     let Some(found) = seen(BlockNo(block), taken, Some(&*built)) else {
         return Err(Halt::Need(BlockNo(block)));
     };

@@ -5,7 +5,7 @@ use Rattle.zj_layout.specs.Image.{image_of, item_block}
 use Rattle.zj_layout.specs.Shows.{put_blocks}
 use Rattle.zj_dirs.specs.Changing.{IsRemoveBlock, of_entry, of_last}
 use Rattle.zj_dirs.proofs.Removed.{block_data, filled, item_is, size_of}
-use Rattle.zj_dirs.proofs.Stops.{halts_more, halts_stop}
+use Rattle.zj_dirs.proofs.Stops.{halts_more, halts_stop, odd_halts, told_apart}
 use Rattle.zj_dirs.proofs.changing.fill_hole.Goals as goal
 
 pub returns-in_err-link-clause-halt : goal.returns-in_err-link-clause-halt
@@ -36,3 +36,12 @@ returns-clause-halt c =
     (λ state tree p b e. of_entry (e ∙ sym (item_is sizes (image_of sizes (put_blocks state c.args.written.now)) (c.requires.stored state tree p) c.args.dir c.args.node.now (c.requires.node state tree p) c.requires.directory c.args.place)))
     halt h)
     c.set_link.ensures.halt
+
+pub returns-in_err-named_data-clause-halt : goal.returns-in_err-named_data-clause-halt
+returns-in_err-named_data-clause-halt c =
+    let q = err_from_is_err_and c.from_residual-in_err-named_data.result c.from_residual-in_err-named_data.ensures.1 in
+    let s = c.in_err-named_data.ensures.stop in
+    let sizes = c.args.sizes.now in
+    rw (q.1, q.2)
+    (odd_halts sizes c.args.taken.now c.args.written.now (λ image block. IsRemoveBlock sizes image c.args.dir c.args.place block) c.in_err-named_data.field-0.0 s.0
+    (λ state tree p. told_apart _ (block_data sizes (image_of sizes (put_blocks state c.args.written.now)) (c.requires.stored state tree p) c.args.dir c.args.node.now (c.requires.node state tree p) c.requires.directory c.args.place c.requires.place) s.1))

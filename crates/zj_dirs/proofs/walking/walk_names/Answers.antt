@@ -11,8 +11,8 @@ loop-name-init c = λ state tree p. refl
 pub step-requires : goal.step-requires
 step-requires c = λ state tree p. leads_live c.args.sizes.now c.args.taken.now state tree p (take c.loop-name.name-index c.args.names.now) c.loop-name.node (c.loop-name.invariant state tree p)
 
-pub returns-in-Ok-NotFound : goal.returns-in-Ok-NotFound
-returns-in-Ok-NotFound c = λ state tree p.
+pub returns-in-Ok-NotFound-clause-says : goal.returns-in-Ok-NotFound-clause-says
+returns-in-Ok-NotFound-clause-says c = λ state tree p.
     let image = image_of c.args.sizes.now state in
     let says = subst (StepSays image c.loop-name.node c.name-item.result) c.in-Ok-NotFound.field-0-is (c.in-Ok-NotFound.ensures.ok state tree p) in
     record {
@@ -23,8 +23,8 @@ returns-in-Ok-NotFound c = λ state tree p.
       absent = says.1;
     }
 
-pub returns-in-Ok-NotDir : goal.returns-in-Ok-NotDir
-returns-in-Ok-NotDir c = λ state tree p.
+pub returns-in-Ok-NotDir-clause-says : goal.returns-in-Ok-NotDir-clause-says
+returns-in-Ok-NotDir-clause-says c = λ state tree p.
     let image = image_of c.args.sizes.now state in
     record {
       name = c.name-item.result;
@@ -39,10 +39,10 @@ loop-name-preserved c = λ state tree p.
     follow_rest (graph_of image) c.args.names.now c.loop-name.name-index c.loop-name.node c.in-Ok-To.next c.name-item.result c.loop-name-test.true c.name-item.is (c.loop-name.invariant state tree p)
     (subst (StepSays image c.loop-name.node c.name-item.result) c.in-Ok-To.field-0-is (c.in-Ok-To.ensures.ok state tree p))
 
-pub returns-in-Err-Need : goal.returns-in-Err-Need
-returns-in-Err-Need c = rw c.in-Err-Need.field-0-is
+pub returns-in-Err-Need-clause-says : goal.returns-in-Err-Need-clause-says
+returns-in-Err-Need-clause-says c = rw c.in-Err-Need.field-0-is
     (step_needs c.args.sizes.now c.args.taken.now c.args.names.now c.loop-name.name-index c.loop-name.node c.name-item.result c.in-Err-Need.field-0 c.in-Err-Need.block c.in-Err-Need.field-0-is c.loop-name-test.true c.name-item.is c.loop-name.invariant
     c.in-Err-Need.ensures.stop)
 
-pub returns : goal.returns
-returns c = λ state tree p. follow_all (graph_of (image_of c.args.sizes.now state)) c.args.names.now c.loop-name.name-index c.loop-name.node c.loop-name-test.false (c.loop-name.invariant state tree p)
+pub returns-clause-says : goal.returns-clause-says
+returns-clause-says c = λ state tree p. follow_all (graph_of (image_of c.args.sizes.now state)) c.args.names.now c.loop-name.name-index c.loop-name.node c.loop-name-test.false (c.loop-name.invariant state tree p)

@@ -40,7 +40,7 @@ returns-in-Ok-clause-whole c = λ state tree p file k leads le lt.
 
 pub returns-clause-says : goal.returns-clause-says
 returns-clause-says c =
-    c.stop.ensures.says c.args.sizes.now c.args.taken.now (Write c.args.path.now c.args.at c.args.bytes.now)
+    c.stop.ensures.says c.args.taken.now (Write c.args.path.now c.args.at c.args.bytes.now)
     (subst (λ bs. CallStops c.args.sizes.now c.args.taken.now (Write c.args.path.now c.args.at bs) c.in-Err.stopped) c.as_slice-bytes.ensures c.in-Err.ensures.stop)
 
 pub returns-clause-whole : goal.returns-clause-whole

@@ -9,8 +9,10 @@ use Rattle.zj_layout.specs.Shows.{put_blocks}
 use Rattle.zj_dirs.specs.Looking.{IsLowestBlock}
 use Rattle.zj_dirs.proofs.Nodes.{named_number, rest_number}
 use Rattle.zj_inode.specs.Files.{HasWritten, IsTakeBlock, IsWriteBlock, LacksSpace, WritesFirst}
+use Rattle.zj_dirs.proofs.Stops.{told_apart}
+use Rattle.zj_inode.proofs.Steps.{odd_after}
 use Rattle.zj_inode.proofs.Writes.{after_at, after_more, first_new, first_old, lacks, new_data, new_has, nothing_has, old_data, old_due, old_has, take_due, up_to_most, up_to_some, used_first}
-use Rattle.zj_inode.proofs.files.write_blocks.Goals.{then-j-had+in_ok-write_old, else-j-had+in_ok-blocks}
+use Rattle.zj_inode.proofs.files.write_blocks.Goals.{then-j-had+in_ok-named_data+in_ok-write_old, else-j-had+in_ok-blocks}
 use Rattle.zj_inode.proofs.files.write_blocks.Goals as goal
 
 pub loop-j-init : goal.loop-j-init
@@ -42,7 +44,7 @@ loop-j-init c =
 
 pub returns-in_err-write_old-clause-stop : goal.returns-in_err-write_old-clause-stop
 returns-in_err-write_old-clause-stop c =
-    let q = err_from_is_err_and c.from_residual.result c.from_residual.ensures.1 in
+    let q = err_from_is_err_and c.from_residual-in_err-write_old.result c.from_residual-in_err-write_old.ensures.1 in
     let sizes = c.args.sizes.now in
     let file = c.args.file.now in
     let j = c.loop-j.j in
@@ -96,7 +98,7 @@ loop-j-preserved c =
     let count : blocks_needed file.node ≡ (file.node.size + 511) / 512 = ap (λ k. (file.node.size + (per_block k - 1)) / per_block k) c.requires.is_file in
     let some = up_to_some c.args.at (length c.args.bytes.now) j (omega arith) (omega (arith, c.loop-j-test.true, c.end_block-end.ensures)) in
     elim c.if-j-had.branch [
-      | then-j-had+in_ok-write_old w ↦ rw (w.built-is, w.blocks-is) record {
+      | then-j-had+in_ok-named_data+in_ok-write_old w ↦ rw (w.built-is, w.blocks-is) record {
         written = first_old sizes c.args.taken.now c.args.built.now c.loop-j.built w.write_old.new.built file.number c.args.at (blocks_needed file.node) c.args.bytes.now blocks j c.loop-j.invariant.written w.in_ok-write_old.ensures.kept
             (omega (arith, count, w.if-j-had.true)) w.in_ok-write_old.ensures.seen
             (λ state tree p.
@@ -139,3 +141,15 @@ returns-clause-done c =
     let most = up_to_most c.args.at (length c.args.bytes.now) in
     subst (λ n. WritesFirst c.args.sizes.now c.args.taken.now c.args.built.now c.loop-j.built c.args.file.now.number c.args.at (blocks_needed c.args.file.now.node) c.args.bytes.now c.loop-j.blocks n)
     (omega (arith, c.end_block-end.ensures, c.loop-j-test.false, c.loop-j.auto.j-end, most.0)) c.loop-j.invariant.written
+
+pub returns-in_err-named_data-clause-stop : goal.returns-in_err-named_data-clause-stop
+returns-in_err-named_data-clause-stop c =
+    let q = err_from_is_err_and c.from_residual.result c.from_residual.ensures.1 in
+    let s = c.in_err-named_data.ensures.stop in
+    let sizes = c.args.sizes.now in
+    let file = c.args.file.now in
+    let to : ℕ = c.args.at + length c.args.bytes.now in
+    rw (q.1, q.2)
+    (odd_after sizes c.args.taken.now c.args.built.now (λ image b. IsWriteBlock sizes image file.number c.args.at to b) (λ state tree r. (r ≡ NoSpace) × LacksSpace sizes (image_of sizes state) file.number to) c.in_err-named_data.field-0.0 s.0
+    (λ state tree p. told_apart _ (old_data sizes (image_of sizes (put_blocks state c.args.built.now)) (c.requires.stored state tree p) (omega (arith, p.shows.shape.limits.some_data)) file.number file.node (c.requires.node state tree p) c.requires.is_file c.args.at c.args.bytes.now c.requires.at_most
+    (image_of sizes (put_blocks state c.loop-j.built)) c.loop-j.blocks c.loop-j.j (c.loop-j.invariant.written.turns state tree p) (omega (arith, c.if-j-had.true))) s.1))

@@ -53,7 +53,7 @@ returns-in_err-read_range-clause-stop c =
     rw (q.1, q.2)
     (stops_more sizes c.args.taken.now (λ image block. (k : ℕ) × (c.args.at ≤ k) × (k < end) × (k < (node_of image file).size) × (block ≡ item_block image file k)) (λ image block. Foot sizes image call block)
     (λ state tree r. ⊥) (λ state tree r. Answers sizes call (replies.Refused r) tree state)
-    (λ state tree p b h. in_range path file h.0 (0, refl) (c.in_ok-file.ensures.ok state tree p).leads h.1 (omega (arith, h.2, c.min.ensures)) (item_within (image_of sizes state) file h.0 h.3) h.4) (λ state tree p r h. absurd h)
+    (λ state tree p b h. in_range path file h.0 (0, refl) (record { leads = (c.in_ok-file.ensures.ok state tree p).leads; is_file = kind_at (image_of sizes state) path c.in_ok-file.file (c.in_ok-file.ensures.ok state tree p) File c.in_ok-file.ensures.file }) h.1 (omega (arith, h.2, c.min.ensures)) (item_within (image_of sizes state) file h.0 h.3) h.4) (λ state tree p r h. absurd h)
     c.in_err-read_range.field-0.0 c.in_err-read_range.ensures.stop)
 
 pub returns-clause-done : goal.returns-clause-done

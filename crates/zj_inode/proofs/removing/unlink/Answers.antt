@@ -22,7 +22,7 @@ returns-in-File-clause-done c = IfOk-weaker c.detach.result _ _
 
 pub returns-in-File-clause-stop : goal.returns-in-File-clause-stop
 returns-in-File-clause-stop c = IfErr-weaker c.detach.result _ _
-    (unlink_stops c.args.sizes.now c.args.taken.now c.args.path.now c.in-Some.front.now c.in-Some.name.now c.in-Some.ensures.some c.in_ok-target.target c.in_ok-target.ensures.ok)
+    (unlink_stops c.args.sizes.now c.args.taken.now c.args.path.now c.in-Some.front.now c.in-Some.name.now c.in-Some.ensures.some c.in_ok-target.target c.in_ok-target.ensures.ok c.in-File.is)
     c.detach.ensures.stop
 
 pub returns-in-Dir-clause-stop : goal.returns-in-Dir-clause-stop

@@ -1,0 +1,52 @@
+-- What the handle of a core has taken, as its pass has it.
+use Rattle.std.specs.Prelude.{◌≡◌, ◌≢◌, ◌⊎◌, ℕ, ◌<◌, ◌×◌, Bool, true, false, List, [], length, map, take, Option, Some, None, IsSome}
+use Rattle.std.specs.FinMap as finmap
+use Rattle.std.specs.Option.{option_map}
+use Rattle.zj_block.specs.Lists.{Entries, content_under}
+use Rattle.zj_block.specs.Sizes.{Numbers}
+use Rattle.zj_tree.specs.declared.call.Call.{Call}
+use Rattle.zj_tree.specs.Tree.{FileTree}
+use Rattle.zj_layout.specs.Image.{State, node_block}
+use Rattle.zj_dirs.specs.Possible.{Always, IsPossible}
+use Rattle.zj_inode.specs.Footprint.{Foot}
+use Rattle.zj_turns.specs.Views.{Has, Hold, Known}
+use Rattle.zj_turns.specs.Passes.{PassState, holds, mine}
+
+-- the number of the block that each handle takes first: that of the root's node
+abbrev pub root_block : Numbers → ℕ
+root_block sizes = node_block sizes 0
+
+-- the contents of the blocks that a core holds, as they were loaded, each under its number
+abbrev pub entries_held : Known → Entries
+entries_held k = map (λ e. (e.0, take 64 e.1.loaded)) (finmap.entries k.held)
+
+-- the content of a block that a core holds, as it was loaded
+abbrev pub content_held : Known → ℕ → Option (List ℕ)
+content_held k b = option_map (λ h. take 64 h.loaded) (finmap.get k.held b)
+
+-- a block was loaded whole, and not stored
+pub record IsRead (h : Hold) : Type 0 where
+  pub loaded : length h.loaded ≡ 67
+  pub stored : h.stored ≡ []
+
+-- some state shows a tree and has the blocks as they were found
+pub record IsPartOfSome (sizes : Numbers) (found : Entries) : Type 0 where
+  pub state : State
+  pub tree : FileTree
+  pub possible : IsPossible sizes found state tree
+
+-- What a core holds are the blocks that were taken, as they were loaded. It has drawn for none of them. Where there are any,
+-- the root's is among them, and some state that shows a tree has them.
+pub record HasTaken (sizes : Numbers) (p : PassState) (found : Entries) : Type 0 where
+  pub known : Has p.view p.core
+  pub clear : (mine p).drawn ≡ false
+  pub read : (b : ℕ) (h : Hold) → finmap.get (mine p).held b ≡ Some h → IsRead h
+  pub same : (b : ℕ) → content_under found b ≡ content_held (mine p) b
+  pub begun : (found ≡ []) ⊎ (IsSome (content_under found (root_block sizes)) × IsPartOfSome sizes found)
+
+-- A call needs a block next: it isn't held, and the call may take it in every state that shows a tree and has the blocks that
+-- are held. The first is that of the root's node.
+pub record NeedsNext (sizes : Numbers) (p : PassState) (call : Call) (block : ℕ) : Type 0 where
+  pub free : holds p block ≡ false
+  pub foot : Always sizes (entries_held (mine p)) (λ image. Foot sizes image call block)
+  pub first : holds p (root_block sizes) ≡ false → block ≡ root_block sizes

@@ -1,0 +1,59 @@
+-- What taking, storing and giving do to a pass.
+use Rattle.std.specs.Prelude.{◌≡◌, ◌≢◌, ◌⊎◌, ℕ, ◌<◌, ◌×◌, Bool, true, false, List, [], ◌∷◌, ◌++◌, length, Some, None, ⊤}
+use Rattle.std.specs.FinMap as finmap
+use Rattle.zj_block.specs.Lists.{Entries}
+use Rattle.zj_block.specs.Sizes.{Numbers}
+use Rattle.zj_history.specs.State.{BlockState}
+use Rattle.zj_history.specs.Operation.{Operation}
+use Rattle.zj_layout.specs.Shows.{ShowsSome}
+use Rattle.zj_turns.specs.Views.{Hold, Known, hold_in, holding, giving, loaded_as, stored_as}
+use Rattle.zj_turns.specs.Passes.{CacheParameters, KnowsHistory, PassState, holds, mine, now_knowing}
+use Rattle.zj_core.specs.declared.fault.TakeFault.{TakeFault}
+use Rattle.zj_core.specs.declared.fault.TakeFault.TheVariants as faults
+
+-- no core that a pass knows holds the block
+abbrev pub IsFree : PassState → ℕ → Type 0
+IsFree p b = (core : ℕ) (k : Known) → finmap.get p.view.known core ≡ Some k → finmap.contains_key k.held b ≡ false
+
+-- One history of the cache has all that a pass knows.
+abbrev pub Knows : CacheParameters → PassState → Type 0
+Knows cache p = KnowsHistory (ShowsSome cache.sizes) cache.cores cache.start p.view
+
+-- what a core holds more, and nothing else
+pub record HoldsMore (old new : Known) : Type 0 where
+  pub operations : new.operations ≡ old.operations
+  pub drawn : new.drawn ≡ old.drawn
+  pub ticket : new.ticket ≡ old.ticket
+  pub number : new.number ≡ old.number
+  pub kept : (b : ℕ) (h : Hold) → finmap.get old.held b ≡ Some h → finmap.get new.held b ≡ Some h
+
+-- A pass took blocks and did nothing else: each was free as it was taken, and one history has what it knows then.
+pub record TakesMore (cache : CacheParameters) (old new : PassState) : Type 0 where
+  pub more : HoldsMore (mine old) (mine new)
+  pub only : new ≡ now_knowing old (mine new)
+  pub free : (b : ℕ) → holds new b ≡ true → holds old b ≡ false → IsFree old b
+  pub knows : (new ≡ old) ⊎ Knows cache new
+
+-- why a block wasn't taken: another core of the cache holds it, surely one that the pass has met; or memory ran out
+abbrev pub IsMissed : CacheParameters → PassState → ℕ → TakeFault → Type 0
+IsMissed cache p b (faults.Busy block holder) = (block ≡ b) × (holder ≢ p.core) × (holder < cache.cores)
+    × ((k : Known) → finmap.get p.view.known holder ≡ Some k → finmap.contains_key k.held b ≡ true)
+IsMissed cache p b faults.NoMemory = ⊤
+
+-- contents stored into blocks that are held, one after the other from the last on
+abbrev pub stored_into : Known → Entries → Known
+stored_into k [] = k
+stored_into k (e ∷ entries) = holding (stored_into k entries) e.0 (stored_as (hold_in (stored_into k entries) e.0).loaded e.1)
+
+-- blocks given back, one after the other from the last on
+abbrev pub given_back : Known → Entries → Known
+given_back k [] = k
+given_back k (e ∷ entries) = giving (given_back k entries) e.0
+
+-- a core that holds nothing any more, and else as before
+abbrev pub emptied : Known → Known
+emptied k = record { operations = k.operations; held = finmap.empty; drawn = false; ticket = k.ticket; number = k.number }
+
+-- a core with one operation more, which holds nothing any more
+abbrev pub with_operation : Known → Operation → Known
+with_operation k o = record { operations = k.operations ++ o ∷ []; held = finmap.empty; drawn = false; ticket = o.ticket; number = o.number }
