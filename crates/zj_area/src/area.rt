@@ -1,6 +1,6 @@
 //! An area: one core's journal on a device that it owns.
 
-ghost use Rattle.std.specs.Prelude.{◌≡◌, ◌<◌, ◌≤◌, ◌+◌, ◌*◌, ◌^◌, ◌++◌, [], ◌∷◌, List, None, Some, IsSome, IfOk, IfErr, IfSome, OnOk, OnErr, MatchResult, true, false, is_some, length};
+ghost use Rattle.std.specs.Prelude.{◌≡◌, ◌<◌, ◌≤◌, ◌+◌, ◌-◌, ◌*◌, ◌^◌, ◌++◌, [], ◌∷◌, List, None, Some, IsSome, IfOk, IfErr, IfSome, OnOk, OnErr, MatchResult, true, false, is_some, length};
 ghost use Rattle.zj_dev.specs.Fault.{Rose};
 ghost use Rattle.zj_dev.specs.Disk.{Continues, IsDisk, IsSettled, OnlyReads, StaysSince};
 ghost use Rattle.zj_tx.specs.Record.{Accepts, Record};
@@ -144,6 +144,7 @@ impl<D: Disk> Area<D> {
     pub fn end(&self) -> Tail
         ensures end { result ≡ self.now.end }
         ensures place { IsPlace self.now.sizes result.place }
+        ensures number { result.number < 2 ^ 64 - 1 }
     {
         self.end
     }

@@ -1,15 +1,22 @@
 -- What taking, storing and giving do to a pass.
-use Rattle.std.specs.Prelude.{◌≡◌, ◌≢◌, ◌⊎◌, ℕ, ◌<◌, ◌×◌, Bool, true, false, List, [], ◌∷◌, ◌++◌, length, Some, None, ⊤}
+use Rattle.std.specs.Prelude.{◌≡◌, ◌≢◌, ◌⊎◌, ℕ, ◌<◌, Bool, true, false, List, [], ◌∷◌, ◌++◌, length, Some, None, ⊤}
 use Rattle.std.specs.FinMap as finmap
 use Rattle.zj_block.specs.Lists.{Entries}
 use Rattle.zj_block.specs.Sizes.{Numbers}
 use Rattle.zj_history.specs.State.{BlockState}
-use Rattle.zj_history.specs.Operation.{Operation}
-use Rattle.zj_layout.specs.Shows.{ShowsSome}
+use Rattle.zj_history.specs.Operation.{Contents, Operation}
+use Rattle.zj_tree.specs.Tree.{FileTree}
+use Rattle.zj_layout.specs.Image.{State}
+use Rattle.zj_layout.specs.Shows.{ShowsSome, put_blocks}
+use Rattle.zj_dirs.specs.Possible.{IsPossible}
+use Rattle.zj_inode.specs.Run.{contents_found}
 use Rattle.zj_turns.specs.Views.{Hold, Known, hold_in, holding, giving, loaded_as, stored_as}
 use Rattle.zj_turns.specs.Passes.{CacheParameters, KnowsHistory, PassState, holds, mine, now_knowing}
+use Rattle.zj_core.specs.Handle.{entries_held}
 use Rattle.zj_core.specs.declared.fault.TakeFault.{TakeFault}
 use Rattle.zj_core.specs.declared.fault.TakeFault.TheVariants as faults
+use Rattle.zj_core.specs.declared.fault.StopFault.{StopFault}
+use Rattle.zj_core.specs.declared.fault.StopFault.TheVariants as stops
 
 -- no core that a pass knows holds the block
 abbrev pub IsFree : PassState → ℕ → Type 0
@@ -40,6 +47,11 @@ IsMissed cache p b (faults.Busy block holder) = (block ≡ b) × (holder ≢ p.c
     × ((k : Known) → finmap.get p.view.known holder ≡ Some k → finmap.contains_key k.held b ≡ true)
 IsMissed cache p b faults.NoMemory = ⊤
 
+-- the fault of a block that wasn't taken, as it keeps a handle from being stopped
+abbrev pub stopped_by : TakeFault → StopFault
+stopped_by (faults.Busy block holder) = stops.Busy block holder
+stopped_by faults.NoMemory = stops.NoMemory
+
 -- contents stored into blocks that are held, one after the other from the last on
 abbrev pub stored_into : Known → Entries → Known
 stored_into k [] = k
@@ -50,6 +62,10 @@ abbrev pub given_back : Known → Entries → Known
 given_back k [] = k
 given_back k (e ∷ entries) = giving (given_back k entries) e.0
 
+-- New contents leave some tree, in every state that shows one and has the blocks as they were found.
+abbrev pub KeepsTree : Numbers → Entries → Contents → Type 0
+KeepsTree sizes found written = (state : State) (tree : FileTree) → IsPossible sizes found state tree → ShowsSome sizes (put_blocks state written)
+
 -- a core that holds nothing any more, and else as before
 abbrev pub emptied : Known → Known
 emptied k = record { operations = k.operations; held = finmap.empty; drawn = false; ticket = k.ticket; number = k.number }
@@ -57,3 +73,14 @@ emptied k = record { operations = k.operations; held = finmap.empty; drawn = fal
 -- a core with one operation more, which holds nothing any more
 abbrev pub with_operation : Known → Operation → Known
 with_operation k o = record { operations = k.operations ++ o ∷ []; held = finmap.empty; drawn = false; ticket = o.ticket; number = o.number }
+
+-- A pass drew a ticket: it has one operation more, which found what was held and wrote these contents, and holds nothing any more.
+pub record Draws (cache : CacheParameters) (old new : PassState) (written : Contents) (number ticket : ℕ) : Type 0 where
+  pub operation : Operation
+  pub ticket_is : operation.ticket ≡ ticket
+  pub core_is : operation.core ≡ old.core
+  pub number_is : operation.number ≡ number
+  pub found : contents_found operation ≡ entries_held (mine old)
+  pub written_is : operation.written ≡ written
+  pub pass : new ≡ now_knowing old (with_operation (mine old) operation)
+  pub knows : Knows cache new

@@ -1,13 +1,11 @@
-// A library with one function.
+//! One core: handles that take blocks of the shared cache one by one, perform a call on them, and enter the history.
 #![tactic(auto)]
 
-ghost use Rattle.std.specs.Prelude.{◌≡◌};
-ghost use Rattle.zj_core.specs.Echo.{echo_of};
+mod fault;
 
-// The `ensures` clause is the contract: what `echo` returns is `echo_of` of its argument, a definition
-// in `specs/Echo.antt`, which a caller's clause can cite too.
-pub fn echo(x: usize) -> usize
-    ensures { result ≡ echo_of x }
-{
-    x
-}
+mod shows;
+mod steps;
+
+pub use fault::{BeginFault, CallFault, StopFault, TakeFault};
+
+pub use shows::ShowsTree;
