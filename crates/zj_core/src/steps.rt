@@ -49,11 +49,13 @@ pub(crate) fn take_block(
     }
     let mut content = Block::zero();
     let _seal = cache.load(pass, block, &mut content);
-    if taken.add(block, &content).is_err() {
-        cache.give(pass, block);
-        return Err(TakeFault::NoMemory);
+    match taken.add(block, &content) {
+        Ok(()) => Ok(()),
+        Err(_no_memory) => {
+            cache.give(pass, block);
+            Err(TakeFault::NoMemory)
+        }
     }
-    Ok(())
 }
 
 /// Stores new contents into blocks that are held.
