@@ -15,6 +15,10 @@ use Rattle.zj_turns.specs.Passes.{CacheParameters, KnowsHistory, PassState, hold
 use Rattle.zj_core.specs.Handle.{entries_held}
 use Rattle.zj_core.specs.declared.fault.TakeFault.{TakeFault}
 use Rattle.zj_core.specs.declared.fault.TakeFault.TheVariants as faults
+use Rattle.zj_core.specs.declared.fault.BeginFault.{BeginFault}
+use Rattle.zj_core.specs.declared.fault.BeginFault.TheVariants as begins
+use Rattle.zj_core.specs.declared.fault.CallFault.{CallFault}
+use Rattle.zj_core.specs.declared.fault.CallFault.TheVariants as calls
 use Rattle.zj_core.specs.declared.fault.StopFault.{StopFault}
 use Rattle.zj_core.specs.declared.fault.StopFault.TheVariants as stops
 
@@ -51,6 +55,15 @@ IsMissed cache p b faults.NoMemory = ⊤
 abbrev pub stopped_by : TakeFault → StopFault
 stopped_by (faults.Busy block holder) = stops.Busy block holder
 stopped_by faults.NoMemory = stops.NoMemory
+
+-- and a fault of beginning or stopping, as it keeps a call from being made
+abbrev pub unbegun_by : BeginFault → CallFault
+unbegun_by (begins.Spent drawn) = calls.Spent drawn
+unbegun_by begins.NoMemory = calls.NoMemory
+
+abbrev pub unstopped_by : StopFault → CallFault
+unstopped_by (stops.Busy block holder) = calls.Busy block holder
+unstopped_by stops.NoMemory = calls.NoMemory
 
 -- contents stored into blocks that are held, one after the other from the last on
 abbrev pub stored_into : Known → Entries → Known

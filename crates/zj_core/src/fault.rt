@@ -3,7 +3,7 @@
 ghost use Rattle.std.specs.Prelude.{◌≡◌};
 ghost use Rattle.zj_core.specs.declared.fault.TakeFault.TheVariants as takes;
 ghost use Rattle.zj_core.specs.declared.fault.BeginFault.TheVariants as begins;
-ghost use Rattle.zj_core.specs.Steps.{stopped_by};
+ghost use Rattle.zj_core.specs.Steps.{stopped_by, unbegun_by, unstopped_by};
 
 use std::alloc::AllocError;
 
@@ -81,6 +81,28 @@ impl From<TakeFault> for StopFault {
         match fault {
             TakeFault::Busy { block, holder } => StopFault::Busy { block, holder },
             TakeFault::NoMemory => StopFault::NoMemory,
+        }
+    }
+}
+
+impl From<BeginFault> for CallFault {
+    ghost from_gives = { λ fault refused. refused ≡ unbegun_by fault };
+
+    fn from(fault: BeginFault) -> CallFault {
+        match fault {
+            BeginFault::Spent { drawn } => CallFault::Spent { drawn },
+            BeginFault::NoMemory => CallFault::NoMemory,
+        }
+    }
+}
+
+impl From<StopFault> for CallFault {
+    ghost from_gives = { λ fault refused. refused ≡ unstopped_by fault };
+
+    fn from(fault: StopFault) -> CallFault {
+        match fault {
+            StopFault::Busy { block, holder } => CallFault::Busy { block, holder },
+            StopFault::NoMemory => CallFault::NoMemory,
         }
     }
 }

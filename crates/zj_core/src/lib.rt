@@ -2,10 +2,10 @@
 #![tactic(auto)]
 
 mod fault;
-
+mod handles;
 mod shows;
 mod steps;
 
 pub use fault::{BeginFault, CallFault, StopFault, TakeFault};
-
+pub use handles::{Core, CoreRefused, Done};
 pub use shows::ShowsTree;

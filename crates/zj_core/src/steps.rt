@@ -1,6 +1,6 @@
 //! The steps of a handle: it takes blocks, stores new contents, draws its ticket, and gives the blocks back.
 
-ghost use Rattle.std.specs.Prelude.{◌≡◌, ◌≢◌, ◌⊎◌, ◌^◌, ◌-◌, ◌<◌, ◌++◌, ◌∷◌, [], ℕ, None, Some, IfErr, IfOk, OnErr, OnOk, length, true, false};
+ghost use Rattle.std.specs.Prelude.{◌≡◌, ◌≢◌, ◌⊎◌, ◌^◌, ◌-◌, ◌<◌, ◌++◌, ◌∷◌, [], ℕ, None, Some, IfErr, IfNone, IfOk, IfSome, OnErr, OnOk, length, true, false};
 ghost use Rattle.std.specs.FinMap as finmap;
 ghost use Rattle.zj_block.specs.Lists.{content_under, count_left};
 ghost use Rattle.zj_inode.specs.Performs.{Performs};
@@ -8,7 +8,8 @@ ghost use Rattle.zj_inode.specs.Run.{contents_found};
 ghost use Rattle.zj_history.specs.Operation.{Operation};
 ghost use Rattle.zj_turns.specs.Views.{Has, Hold};
 ghost use Rattle.zj_turns.specs.Passes.{IsActive, holds, left_of, mine, now_knowing};
-ghost use Rattle.zj_core.specs.Handle.{HasTaken, NeedsNext, root_block};
+ghost use Rattle.zj_core.specs.Core.{IsTakeCause, NeedsNoMore, TakesNext};
+ghost use Rattle.zj_core.specs.Handle.{HasTaken, root_block};
 ghost use Rattle.zj_core.specs.Steps.{Draws, IsMissed, KeepsTree, Knows, TakesMore, given_back, stored_into};
 
 use crate::fault::TakeFault;
@@ -58,12 +59,67 @@ pub(crate) fn take_block(
     }
 }
 
-/// Stores new contents into blocks that are held.
-pub(crate) fn store_all(
+/// Takes the next block that a call needs, if it needs one. After an error all is as before.
+pub(crate) fn take_next(
+    alloc: Global,
     cache: &Cache<ShowsTree>,
+    sizes: &Sizes,
+    call: &Call,
     pass: &mut Pass<ShowsTree>,
-    written: &Written,
-)
+    taken: &mut Taken,
+) -> Result<Option<BlockNo>, TakeFault>
+    requires active { IsActive cache.now pass.old }
+    requires sizes { cache.now.sizes ≡ sizes.now }
+    requires many { length cache.now.start ≡ sizes.now.blocks }
+    requires has { HasTaken sizes.now pass.old taken.old }
+    ensures has { HasTaken sizes.now pass.new taken.new }
+    ensures took { IfOk result (λ next. IfSome next (λ block. TakesNext cache.now sizes.now pass.old pass.new call.now block.0)) }
+    ensures ready { IfOk result (λ next. IfNone next (NeedsNoMore sizes.now pass.old call.now)) }
+    ensures idle { IfOk result (λ next. IfNone next ((pass.new ≡ pass.old) × (taken.new ≡ taken.old))) }
+    ensures cause { IfErr result (IsTakeCause cache.now sizes.now pass.old call.now) }
+    ensures pass { OnErr result (pass.new ≡ pass.old) }
+    ensures taken { OnErr result (taken.new ≡ taken.old) }
+{
+    match perform(alloc, sizes, call, taken)? {
+        Outcome::Need(block) => {
+            take_block(cache, pass, taken, block)?;
+            Ok(Some(block))
+        }
+        Outcome::Done { .. } => Ok(None),
+        Outcome::Odd => unreachable!(),
+    }
+}
+
+/// Takes all blocks that a call needs besides, and performs it. After an error the pass has what was taken by then.
+pub(crate) fn take_all(
+    alloc: Global,
+    cache: &Cache<ShowsTree>,
+    sizes: &Sizes,
+    call: &Call,
+    pass: &mut Pass<ShowsTree>,
+    taken: &mut Taken,
+) -> Result<(Reply, Written), TakeFault>
+    requires active { IsActive cache.now pass.old }
+    requires sizes { cache.now.sizes ≡ sizes.now }
+    requires many { length cache.now.start ≡ sizes.now.blocks }
+    requires has { HasTaken sizes.now pass.old taken.old }
+    ensures has { HasTaken sizes.now pass.new taken.new }
+    ensures takes { TakesMore cache.now pass.old pass.new }
+    ensures performs { IfOk result (λ done. Performs sizes.now taken.new done.1 call.now done.0) }
+    ensures root { OnOk result (content_under taken.new (root_block sizes.now) ≢ None) }
+    ensures cause { IfErr result (IsTakeCause cache.now sizes.now pass.new call.now) }
+{
+    loop {
+        match perform(alloc, sizes, call, taken)? {
+            Outcome::Need(block) => take_block(cache, pass, taken, block)?,
+            Outcome::Done { reply, written } => return Ok((reply, written)),
+            Outcome::Odd => unreachable!(),
+        }
+    }
+}
+
+/// Stores new contents into blocks that are held.
+pub(crate) fn store_all(cache: &Cache<ShowsTree>, pass: &mut Pass<ShowsTree>, written: &Written)
     requires active { IsActive cache.now pass.old }
     requires known { Has pass.old.view pass.old.core }
     requires clear { (mine pass.old).drawn ≡ false }
@@ -79,11 +135,7 @@ pub(crate) fn store_all(
 }
 
 /// Gives all blocks back that were taken.
-pub(crate) fn give_all(
-    cache: &Cache<ShowsTree>,
-    pass: &mut Pass<ShowsTree>,
-    taken: &Taken,
-)
+pub(crate) fn give_all(cache: &Cache<ShowsTree>, pass: &mut Pass<ShowsTree>, taken: &Taken)
     requires active { IsActive cache.now pass.old }
     requires known { Has pass.old.view pass.old.core }
     requires held { (b : ℕ) → content_under taken.now b ≢ None → holds pass.old b ≡ true }

@@ -1,0 +1,279 @@
+//! A core and its handle.
+
+ghost use Rattle.std.specs.Prelude.{◌≡◌, ◌≢◌, IfErr, IfNone, IfOk, IfSome, IsSome, None, OnErr, OnOk, Some, is_some, length, true, false};
+ghost use Rattle.std.specs.FinMap as finmap;
+ghost use Rattle.zj_turns.specs.Passes.{IsIdle, IsPeer, left_of, mine, now_knowing, with_away, with_view};
+ghost use Rattle.zj_turns.specs.Views.{joined, without};
+ghost use Rattle.zj_core.specs.Core.{IsBeginCause, IsCallCause, IsOf, IsReady, IsSteady, IsStopCause, IsTakeCause, NeedsNoMore, Performed, TakesNext, number_of};
+ghost use Rattle.zj_core.specs.Steps.{TakesMore, emptied};
+
+use crate::fault::{BeginFault, CallFault, StopFault, TakeFault};
+use crate::shows::ShowsTree;
+use crate::steps::{finish, give_all, take_all, take_next};
+use std::alloc::Global;
+use std::marker::Model;
+use zj_area::Area;
+use zj_block::{BlockNo, Sizes, Taken};
+use zj_dev::Disk;
+use zj_tree::{Call, Reply};
+use zj_turns::{Cache, Pass};
+
+/// What a call was answered that entered the history.
+#[derive(Debug, PartialEq, Eq, Drop)]
+pub struct Done {
+    /// The ticket of its operation: its place in the history.
+    pub ticket: u64,
+    /// What the call answers.
+    pub reply: Reply,
+}
+
+/// The parts of a core that there was no memory for, given back.
+#[derive(Drop)]
+pub struct CoreRefused<D: Disk> {
+    /// The pass.
+    pub pass: Pass<ShowsTree>,
+    /// The journal.
+    pub area: Area<D>,
+}
+
+/// An open handle: the call that it is for, and the blocks that it has taken.
+#[derive(Drop)]
+pub(crate) struct Handle {
+    pub(crate) call: Call,
+    pub(crate) taken: Taken,
+}
+
+/// One core: its pass of the cache, its journal, and the handle that is open, if one is.
+#[derive(Drop)]
+pub struct Core<D: Disk> {
+    alloc: Global,
+    pass: Pass<ShowsTree>,
+    area: Area<D>,
+    sizes: Sizes,
+    handle: Option<Handle>,
+}
+
+impl<D: Disk> Model for Core<D> {
+    ghost use Rattle.std.specs.Coded.{codes};
+    ghost use Rattle.std.specs.Option.{option_map};
+    ghost use Rattle.zj_turns.specs.Passes.{pass_state_code};
+    ghost use Rattle.zj_core.specs.Core.{CoreState, IsCore};
+
+    ghost Value = { CoreState D };
+
+    ghost coded = { Prim.hlevel (codes, pass_state_code) };
+
+    ghost view = { λ c. record { pass = c.pass; area = c.area; sizes = c.sizes; begun = option_map (λ h. h.call) c.handle } };
+
+    ghost invariant = { λ c. IsCore c.pass c.area c.sizes c.handle };
+}
+
+impl<D: Disk> Core<D> {
+    /// The core of a pass of which nothing is held and a journal that is ready, for an image of these sizes.
+    ///
+    /// The error is that there was no memory, and gives both back.
+    pub fn new(
+        alloc: Global,
+        pass: Pass<ShowsTree>,
+        area: Area<D>,
+        sizes: &Sizes,
+    ) -> Result<Core<D>, CoreRefused<D>>
+        requires idle { IsIdle pass.table pass.core pass }
+        requires core { area.core ≡ pass.core }
+        requires sizes { area.sizes ≡ sizes.now }
+        requires ready { IsReady area }
+        ensures ok { IfOk result (λ core. core ≡ record { pass = pass; area = area; sizes = sizes.now; begun = None }) }
+        ensures err { IfErr result (λ refused. (refused.pass ≡ pass) × (refused.area ≡ area)) }
+    {
+        Ok(Core {
+            alloc,
+            pass,
+            area,
+            sizes: *sizes,
+            handle: None,
+        })
+    }
+
+    /// The core.
+    pub fn core(&self) -> u32
+        ensures { result ≡ self.now.pass.core }
+    {
+        self.pass.core()
+    }
+
+    /// Whether a handle is open. Between two calls a core has drawn for nothing that it holds.
+    pub fn open_handle(&self) -> bool
+        ensures open { result ≡ is_some self.now.begun }
+        ensures steady { IsSteady self.now }
+    {
+        self.handle.is_some()
+    }
+
+    /// Whether the core is away in another, which has met it.
+    pub fn away(&self) -> bool
+        ensures { result ≡ self.now.pass.away }
+    {
+        self.pass.away()
+    }
+
+    /// How often the core may still draw a ticket.
+    pub fn left(&self) -> u64
+        ensures { result ≡ left_of self.now.pass }
+    {
+        self.pass.left()
+    }
+
+    /// The number of the transaction that its operations belong to.
+    pub fn number(&self) -> u64
+        ensures { result ≡ number_of self.now }
+    {
+        self.area.end().number
+    }
+
+    /// Begins a handle for a call. It takes no block yet.
+    ///
+    /// `Spent` comes exactly where the core has no draw left, unless memory runs out. After an error all is as before.
+    pub fn begin(&mut self, call: &Call) -> Result<(), BeginFault>
+        requires idle { self.old.begun ≡ None }
+        ensures begun { OnOk result (self.new ≡ record self.old { begun = Some call.now }) }
+        ensures left { OnOk result (left_of self.old.pass ≢ 0) }
+        ensures cause { IfErr result (IsBeginCause self.old.pass) }
+        ensures err { OnErr result (self.new ≡ self.old) }
+    {
+        let left = self.pass.left();
+        if left == 0 {
+            return Err(BeginFault::Spent {
+                drawn: u64::from(u32::MAX),
+            });
+        }
+        self.handle = Some(Handle {
+            call: call.copy(self.alloc)?,
+            taken: Taken::new(self.alloc),
+        });
+        Ok(())
+    }
+
+    /// Takes the next block that the call of the open handle needs, and tells it. `None` where it needs no more.
+    ///
+    /// `Busy` tells a block that it needs and the core that has it. After an error all is as before.
+    pub fn take(&mut self, cache: &Cache<ShowsTree>) -> Result<Option<BlockNo>, TakeFault>
+        requires of { IsOf cache.now self.old }
+        requires open { IsSome self.old.begun }
+        ensures took { IfOk result (λ next. IfSome next (λ block. IfSome self.old.begun (λ call. TakesNext cache.now self.old.sizes self.old.pass self.new.pass call block.0))) }
+        ensures ready { IfOk result (λ next. IfNone next (IfSome self.old.begun (NeedsNoMore self.old.sizes self.old.pass))) }
+        ensures idle { IfOk result (λ next. IfNone next (self.new ≡ self.old)) }
+        ensures only { self.new ≡ record self.old { pass = self.new.pass } }
+        ensures cause { IfErr result (λ fault. IfSome self.old.begun (λ call. IsTakeCause cache.now self.old.sizes self.old.pass call fault)) }
+        ensures err { OnErr result (self.new ≡ self.old) }
+    {
+        let Some(handle) = &mut self.handle else {
+            unreachable!()
+        };
+        take_next(
+            self.alloc,
+            cache,
+            &self.sizes,
+            &handle.call,
+            &mut self.pass,
+            &mut handle.taken,
+        )
+    }
+
+    /// Takes what the call of the open handle needs besides, stores its new contents, draws its ticket, and gives all blocks back.
+    /// No handle is open then.
+    ///
+    /// After an error the handle stays open with what it took, and all else is as before.
+    pub fn stop(&mut self, cache: &Cache<ShowsTree>) -> Result<Done, StopFault>
+        requires of { IsOf cache.now self.old }
+        requires open { IsSome self.old.begun }
+        ensures done { IfOk result (λ done. IfSome self.old.begun (λ call. Performed cache.now self.old.sizes (number_of self.old) self.old.pass self.new.pass call done)) }
+        ensures closed { OnOk result (self.new ≡ record self.old { pass = self.new.pass; begun = None }) }
+        ensures cause { IfErr result (λ fault. IfSome self.old.begun (λ call. IsStopCause cache.now self.old.sizes self.new.pass call fault)) }
+        ensures takes { OnErr result (TakesMore cache.now self.old.pass self.new.pass) }
+        ensures stays { OnErr result (self.new ≡ record self.old { pass = self.new.pass }) }
+    {
+        let Some(mut handle) = self.handle.take() else {
+            unreachable!()
+        };
+        let number = self.area.end().number;
+        match take_all(
+            self.alloc,
+            cache,
+            &self.sizes,
+            &handle.call,
+            &mut self.pass,
+            &mut handle.taken,
+        ) {
+            Ok((reply, written)) => {
+                let ticket = finish(cache, &mut self.pass, &handle.taken, &written, number);
+                Ok(Done { ticket, reply })
+            }
+            Err(fault) => {
+                self.handle = Some(handle);
+                Err(fault.into())
+            }
+        }
+    }
+
+    /// Gives the blocks of the open handle back, as they were. No handle is open then. It takes no memory.
+    pub fn drop_handle(&mut self, cache: &Cache<ShowsTree>)
+        requires of { IsOf cache.now self.old }
+        requires open { IsSome self.old.begun }
+        ensures { self.new ≡ record self.old { pass = now_knowing self.old.pass (emptied (mine self.old.pass)); begun = None } }
+    {
+        if let Some(handle) = self.handle.take() {
+            give_all(cache, &mut self.pass, &handle.taken);
+        }
+    }
+
+    /// Makes a call: begins a handle and stops it.
+    ///
+    /// After an error no handle is open, and all is as before.
+    pub fn call(&mut self, cache: &Cache<ShowsTree>, call: &Call) -> Result<Done, CallFault>
+        requires of { IsOf cache.now self.old }
+        requires idle { self.old.begun ≡ None }
+        ensures done { IfOk result (Performed cache.now self.old.sizes (number_of self.old) self.old.pass self.new.pass call.now) }
+        ensures closed { OnOk result (self.new ≡ record self.old { pass = self.new.pass }) }
+        ensures cause { IfErr result (IsCallCause cache.now self.old.sizes self.old.pass) }
+        ensures err { OnErr result (self.new ≡ self.old) }
+    {
+        self.begin(call)?;
+        match self.stop(cache) {
+            Ok(done) => Ok(done),
+            Err(fault) => {
+                self.drop_handle(cache);
+                Err(fault.into())
+            }
+        }
+    }
+
+    /// Takes in what another core knows, which is then away in this one. It takes no memory.
+    pub fn meet(&mut self, cache: &Cache<ShowsTree>, other: &mut Core<D>)
+        requires of { IsOf cache.now self.old }
+        requires peer { IsPeer self.old.pass other.old.pass false }
+        ensures met { self.new ≡ record self.old { pass = with_view self.old.pass (joined self.old.pass.view other.old.pass.view) } }
+        ensures other { other.new ≡ record other.old { pass = with_away other.old.pass true } }
+        ensures peer { IsPeer self.new.pass other.new.pass true }
+    {
+        cache.meet(&mut self.pass, &mut other.pass);
+    }
+
+    /// Gives another core back what is known of it. It is then as it was before it was met. It takes no memory.
+    pub fn part(&mut self, cache: &Cache<ShowsTree>, other: &mut Core<D>)
+        requires of { IsOf cache.now self.old }
+        requires peer { IsPeer self.old.pass other.old.pass true }
+        ensures parted { self.new ≡ record self.old { pass = with_view self.old.pass (without self.old.pass.view other.old.pass.core) } }
+        ensures other { other.new ≡ record other.old { pass = with_away other.old.pass false } }
+        ensures peer { IsPeer self.new.pass other.new.pass false }
+    {
+        cache.part(&mut self.pass, &mut other.pass);
+    }
+
+    /// The pass and the journal, once no handle is open.
+    pub fn close(self) -> (Pass<ShowsTree>, Area<D>)
+        requires { self.begun ≡ None }
+        ensures { result ≡ (self.pass, self.area) }
+    {
+        (self.pass, self.area)
+    }
+}
