@@ -97,13 +97,14 @@ abbrev pub size_before : Image → Call → ℕ → ℕ
 size_before image (calls.Rename from to) dir = if same_path (parent from) (parent to) then size_of image dir - 1 else size_of image dir
 size_before image call dir = size_of image dir
 
--- A call needs so many new blocks: a write that is within the file and the longest one, and a new entry that has room.
+-- A call needs so many new blocks: a write that begins within its file and ends within the longest one, and an entry for
+-- which the directory has room.
 abbrev pub NeedsBlocks : Image → Call → ℕ → Type 0
 NeedsBlocks image (calls.Write path at bytes) count =
     (file : ℕ) × LeadsToFile image path file × (at ≤ size_of image file) × (at + length bytes ≤ 6144) × (count ≡ blocks_for (max (size_of image file) (at + length bytes)) 512 - blocks_for (size_of image file) 512)
 NeedsBlocks image call count = (path : List (List ℕ)) × (dir : ℕ) × Adds call path × AddsEntry image path dir × HasRoom image call dir × (count ≡ one_more (size_before image call dir))
 
--- A call frees a block: a file's that is gone or cut, or the last one of a directory that loses the only entry in it.
+-- A call frees the last block of a directory, which loses the only entry in it.
 pub record Shrinks (image : Image) (call : Call) (block : ℕ) : Type 0 where
   pub dir : ℕ
   pub place : ℕ
@@ -111,6 +112,7 @@ pub record Shrinks (image : Image) (call : Call) (block : ℕ) : Type 0 where
   pub alone : size_of image dir % 16 ≡ 1
   pub last : block ≡ item_block image dir (size_of image dir - 1)
 
+-- the blocks of a file that is removed or replaced, and those of one that is cut, from its new end on
 abbrev pub FreesOf : Image → Call → ℕ → Type 0
 FreesOf image (calls.Unlink path) block = (file j : ℕ) × LeadsToFile image path file × (j < count_of image file) × (number_of image file j ≡ block)
 FreesOf image (calls.Rename from to) block = (file j : ℕ) × LeadsToFile image to file × (j < count_of image file) × (number_of image file j ≡ block)
@@ -131,7 +133,9 @@ range_of _ = (0, 0)
 abbrev pub HasBlockFor : Image → ℕ → ℕ → Type 0
 HasBlockFor image node place = place / per_block (node_of image node).kind < count_of image node
 
--- The blocks that a call may take in the state with these tables, one case for each reason.
+-- The blocks that a call may take in the state with these tables, one case for each reason: those of a range only of a
+-- file, the last one of a directory only where it has room for the new entry, and those of an entry only where its node is
+-- one that the call removes.
 pub data Foot (sizes : Numbers) (image : Image) (call : Call) (block : ℕ) : Type 0 where
   the_root : block ≡ node_block sizes 0 → Foot sizes image call block
   on_the_way : (path : List (List ℕ)) → IsPathOf call path → IsOnTheWay sizes image path block → Foot sizes image call block

@@ -19,7 +19,9 @@
 //! goes. Its four clauses are `done` (the built contents answer the call: `Builds`), `taken` (each was taken), `few` (how many
 //! it builds at most) and `stop` (what stops it is the call's own: `CallStops`). `finish` makes the outcome of that, and
 //! leaves out contents that come out as they were found, so it has no more than were built. So a call has room in one
-//! record, which has 48 blocks (`few` of `perform`): the private functions say 37 of a write, and 17 of any other call.
+//! record, which holds 48 blocks (`few` of `perform`): the private functions say 37 of a write, and 17 of any other call.
+//! A number that a node names outside the blocks for data is Odd where it is read, and `finishing::need` makes an Odd of any
+//! block outside the image, so that no other private function speaks of that.
 //!
 //! - `finding`: `go_to_node`, `go_to_dir`, `go_to_file` and `go_to_entry` find what names lead to, `entry_of` searches a
 //!   directory.

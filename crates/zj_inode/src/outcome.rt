@@ -6,7 +6,7 @@ use zj_tree::Reply;
 /// What performing a call over taken blocks answers.
 #[derive(Debug, Drop)]
 pub enum Outcome {
-    /// This block is needed: it wasn't taken.
+    /// This block of the image is needed: it wasn't taken.
     Need(BlockNo),
     /// The call is performed.
     Done {

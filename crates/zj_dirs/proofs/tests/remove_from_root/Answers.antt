@@ -14,4 +14,4 @@ remove-requires-clause-stored c = unwritten_stored c.args.sizes.now c.args.taken
 
 pub remove-requires-clause-place : goal.remove-requires-clause-place
 remove-requires-clause-place c = λ state tree p.
-    stands_within (image_of c.args.sizes.now (put_blocks state c.args.written.now)) 0 c.in-Found.place c.in-Found.node c.args.name.now (c.in-Found.ensures state tree p)
+    stands_within (image_of c.args.sizes.now (put_blocks state c.args.written.now)) 0 c.in-Found.place c.in-Found.node c.args.name.now (c.in-Found.ensures.says state tree p)
