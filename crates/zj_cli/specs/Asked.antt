@@ -1,7 +1,6 @@
 -- What the lines of a schedule ask for: which acts are built, and where an input is refused.
 use Rattle.std.specs.Prelude.{◌≡◌, ℕ, ◌+◌, Bool, true, false, List, ◌∷◌, ◌++◌, ◌⊎◌, length, All, IsTrue, Option, Some, None, nat_lt, if◌then◌else◌}
 use Rattle.zj_tree.specs.declared.call.Call.TheVariants as calls
-use Rattle.zj_script.specs.declared.fault.ScriptFault.{ScriptFault}
 use Rattle.zj_script.specs.declared.fault.ScriptFault.TheVariants as refusals
 use Rattle.zj_script.specs.declared.kind.Kind.TheVariants as kinds
 use Rattle.zj_script.specs.declared.line.Act.{Act}
@@ -69,8 +68,3 @@ IsRefusedAt cores input kind line column = LeavesGrammar cores input kind line c
 abbrev pub RefusesInput : ℕ → List ℕ → Fault → Type 0
 RefusesInput cores input (faults.Script kind line column) = IsRefusedAt cores input kind line column
 RefusesInput cores input fault = fault ≡ faults.Memory
-
--- the fault of a place where a script or a schedule is refused
-abbrev pub fault_of_script : ScriptFault → Fault
-fault_of_script (refusals.Refused kind line column) = faults.Script kind line column
-fault_of_script refusals.NoMemory = faults.Memory

@@ -16,13 +16,13 @@ use Rattle.zj_script.specs.declared.line.Line.{Line}
 use Rattle.zj_script.specs.Answers.{answer_text}
 use Rattle.zj_script.specs.declared.script.TheConstants.{MAX_BYTES}
 use Rattle.zj_script.specs.Script.{IsSchedule}
+use Rattle.zj_mount.specs.Set.{AllBack}
 use Rattle.zj_cli.specs.declared.status.Fault.{Fault}
 use Rattle.zj_cli.specs.declared.status.Fault.TheVariants as faults
 use Rattle.zj_cli.specs.Asked.{AreBuilt, IsRefusedAt}
 use Rattle.zj_cli.specs.Check.{IsDeviceCause}
 use Rattle.zj_cli.specs.Mount.{IsTreeCause, Mounts}
 use Rattle.zj_cli.specs.Outside.{IsUnwritten, Outside}
-use Rattle.zj_cli.specs.Set.{AllBack}
 
 -- the call of a line with such an act, if that is a whole call
 abbrev pub made_by : Line → Act → List (Line × Call)
