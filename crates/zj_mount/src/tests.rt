@@ -86,44 +86,33 @@ fn opens_what_is_an_image(rt: HostRuntime) -> Result<(), Fail> {
     let mut cut = journal_bytes(alloc, &[])?;
     let _ = cut.pop();
     let (home, device) = (Device::Home, Device::Journal(1));
+    let found = refusal(
+        &rt,
+        alloc,
+        &[("home", &good, &[]), ("j0", &long, &[]), ("j1", &long, &[])],
+    )?;
+    assert_eq!(rt; found, None);
+    let found = refusal(&rt, alloc, &[("j0", &long, &[]), ("j1", &long, &[])])?;
+    assert_eq!(rt; found, Some(OpenFault::Absent { device: home }));
+    let found = refusal(&rt, alloc, &[("home", &good, &[]), ("j0", &long, &[])])?;
+    assert_eq!(rt; found, Some(OpenFault::Absent { device }));
+    let found = refusal(
+        &rt,
+        alloc,
+        &[("home", &good, &[]), ("j0", &long, &[]), ("j1", &cut, &[])],
+    )?;
     let shorter = OpenFault::Sizes {
         device,
         found: 50767,
         expected: 50768,
     };
-    let table: [(&[Given], Option<OpenFault>); 7] = [
-        (
-            &[("home", &good, &[]), ("j0", &long, &[]), ("j1", &long, &[])],
-            None,
-        ),
-        (
-            &[("j0", &long, &[]), ("j1", &long, &[])],
-            Some(OpenFault::Absent { device: home }),
-        ),
-        (
-            &[("home", &good, &[]), ("j0", &long, &[])],
-            Some(OpenFault::Absent { device }),
-        ),
-        (
-            &[("home", &good, &[]), ("j0", &long, &[]), ("j1", &cut, &[])],
-            Some(shorter),
-        ),
-        (
-            &[("home", &closed, &[]), ("j1", &cut, &[])],
-            Some(OpenFault::NotAnImage { at: 0 }),
-        ),
-        (
-            &[("home", &newer, &[])],
-            Some(OpenFault::Version { found: 9 }),
-        ),
-        (
-            &[("home", &good, &[0])],
-            Some(OpenFault::DiskFault { device: home }),
-        ),
-    ];
-    for (devices, fault) in table {
-        assert_eq!(rt; refusal(&rt, alloc, devices)?, fault);
-    }
+    assert_eq!(rt; found, Some(shorter));
+    let found = refusal(&rt, alloc, &[("home", &closed, &[]), ("j1", &cut, &[])])?;
+    assert_eq!(rt; found, Some(OpenFault::NotAnImage { at: 0 }));
+    let found = refusal(&rt, alloc, &[("home", &newer, &[])])?;
+    assert_eq!(rt; found, Some(OpenFault::Version { found: 9 }));
+    let found = refusal(&rt, alloc, &[("home", &good, &[0])])?;
+    assert_eq!(rt; found, Some(OpenFault::DiskFault { device: home }));
     Ok(())
 }
 
