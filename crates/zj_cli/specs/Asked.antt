@@ -39,7 +39,8 @@ pub record IsUnbuiltAt (lines : List Line) (kind line column : ℕ) : Type 0 whe
   pub line_is : line ≡ first.number
   pub column_is : column ≡ act_column first.core
 
--- The first line that is refused is no line of a schedule, and all acts before it are built.
+-- A line is refused that is no line of a schedule: the lines in front of it spell these lines, whose acts are all built, and the
+-- kind and the column are those with which the grammar refuses it.
 pub record LeavesGrammar (cores : ℕ) (input : List ℕ) (kind line column : ℕ) : Type 0 where
   pub front : List (List ℕ)
   pub lines : List Line
@@ -48,7 +49,8 @@ pub record LeavesGrammar (cores : ℕ) (input : List ℕ) (kind line column : �
   pub line_is : line ≡ length front + 1
   pub refused : IsNoSchedule cores input (refusals.Refused kind line column)
 
--- The lines before any that is no line of a schedule ask for an act that isn't built.
+-- A line is refused whose act isn't built: it is the first such one of these lines, which the first lines of the input spell. What
+-- stands behind them may be no line of a schedule.
 pub record AsksForUnbuilt (cores : ℕ) (input : List ℕ) (kind line column : ℕ) : Type 0 where
   pub front : List (List ℕ)
   pub lines : List Line

@@ -29,10 +29,10 @@ use zj_script::{Act, Answer, Form, Line, write_answer};
 use zj_tree::{Bytes, Call};
 use zj_volume::Volume;
 
-/// Reads a schedule, makes its calls on the tree of the image on a shelf, and writes their answers. It writes no device, and all
-/// that it opened is closed again.
+/// Reads a schedule, makes its calls on the blocks of the image on a shelf, and writes their answers. It writes no device, and
+/// all that it opened is closed again.
 ///
-/// The first fault in this order counts: opening, reading the devices, the input, the script, writing to `out`, closing.
+/// The first fault in this order counts: opening, reading the devices, the input, the schedule, writing to `out`, closing.
 pub fn play<H: Shelf, S: Source, K: Sink>(
     alloc: Global,
     shelf: &mut H,
