@@ -68,12 +68,22 @@ PLAYED = [
 
 # Where a script is refused: its line and a mark, and what was due.
 REFUSED = [
-    (b"0 list /\n0 mkdir a\n", "line 2 column 9 kind 3\n0 mkdir a\n        ^\ndue: a path, as / or /a/b, of at most 16 names\n"),
-    (b"0 list", "line 1 column 7 kind 3\n0 list\n      ^\ndue: a path, as / or /a/b, of at most 16 names\n"),
+    (b"0 list /\n0 mkdir a\n", "line 2 column 9 kind 3\n0 mkdir a\n        ^\ndue: a path, as / or /a/b, of at most 16 names, each of at most 26 letters, digits, and . _ -\n"),
+    (b"0 list", "line 1 column 7 kind 3\n0 list\n      ^\ndue: a path, as / or /a/b, of at most 16 names, each of at most 26 letters, digits, and . _ -\n"),
     (b"4 list /", "line 1 column 1 kind 1\n4 list /\n^\ndue: a core below the image's count of cores, or in a schedule checkpoint\n"),
-    (b"0 commit\n", "line 1 column 3 kind 2\n0 commit\n  ^\ndue: a call or an act that can stand here, or the end of the line\n"),
-    (b"# \xff\n0 list /\xff\n", "line 2 column 8 kind 3\n0 list /?\n       ^\ndue: a path, as / or /a/b, of at most 16 names\n"),
-    (b"0 list " + b"/aaaa" * 14 + b"/ 1", "line 1 column 8 kind 3\n0 list " + "/aaaa" * 4 + "\n       ^\ndue: a path, as / or /a/b, of at most 16 names\n"),
+    (b"0 commit\n", "line 1 column 3 kind 2\n0 commit\n  ^\ndue: a call or an act that can stand here, or the end of the line\nnot built yet: fsync, begin, take, look, stop, drop, commit, sync and checkpoint\n"),
+    (b"# \xff\n0 list /\xff\n", "line 2 column 8 kind 3\n0 list /?\n       ^\ndue: a path, as / or /a/b, of at most 16 names, each of at most 26 letters, digits, and . _ -\n"),
+    (b"0 list " + b"/aaaa" * 14 + b"/ 1", "line 1 column 8 kind 3\n0 list " + "/aaaa" * 4 + "\n       ^\ndue: a path, as / or /a/b, of at most 16 names, each of at most 26 letters, digits, and . _ -\n"),
+]
+
+# Words of `make` that give no image its sizes, and what is told of them.
+WRONG_SIZES = [
+    (("64", "9", "1", "50752"), "NODES is a number from 8 to 1024, a multiple of 8"),
+    (("64", "8", "01", "50752"), "CORES is a number from 1 to 8"),
+    (("64", "8", "1", "50751"), "AREA is a number from 50736, and 16 more for each core, to 16777216"),
+    (("16", "128", "1", "50752"),
+     "BLOCKS is a number from 16 to 4096, and leaves a block behind those of the map and of the nodes"),
+    (("64", "8", "1"), "make stands alone, or with four numbers: BLOCKS NODES CORES AREA"),
 ]
 
 
@@ -150,6 +160,13 @@ def refuse(program, lines, place):
         return compare(lines, run(program, folder, "play", lines=lines), (2, "", "zj: script " + place))
 
 
+def refuse_sizes(program, sizes, text):
+    """Asks for an image of sizes that none may have."""
+    with tempfile.TemporaryDirectory() as folder:
+        failed = compare(sizes, run(program, folder, "make", *sizes), (1, "", f"zj: words\n{text}\n"))
+        return failed + compare("no file", contents(folder) == {}, True)
+
+
 def main(program):
     program = os.path.realpath(program)
     scripts = sorted(glob.glob(os.path.join(HERE, "*.script")))
@@ -157,6 +174,7 @@ def main(program):
     for command, images in (("check", CHECKED), ("play", PLAYED)):
         failed += sum(read(program, command, *image) for image in images)
     failed += sum(refuse(program, *script) for script in REFUSED)
+    failed += sum(refuse_sizes(program, *sizes) for sizes in WRONG_SIZES)
     failed += sum(close_output(program, command) for command in ("play", "check"))
     with tempfile.TemporaryDirectory() as folder:
         os.symlink("home", os.path.join(folder, "home"))

@@ -3,10 +3,12 @@
 
 mod place;
 mod recorded;
+mod sizes;
 mod usage;
 
 use place::tell_place;
 use recorded::Recorded;
+use sizes::tell_sizes;
 use std::fs::Files;
 use std::process::ExitCode;
 use std::{env, fs, io};
@@ -32,7 +34,7 @@ fn main(rt: HostRuntime) -> io::Result<ExitCode> {
         &mut out,
     );
     // A fault that can't be told changes nothing of the status.
-    let _ = tell_fault(&rt, &status, input.given());
+    let _ = tell_fault(&rt, &status, words.as_slice(), input.given());
     Ok(ExitCode::from(status.code()))
 }
 
@@ -42,13 +44,19 @@ fn guard<R: Files>(files: &R) -> Option<R::File> {
     fs::open(files, "/").ok()
 }
 
-/// Tells a fault on standard error; of a script also the place, where the input is known.
-fn tell_fault(rt: &HostRuntime, status: &Status, input: Option<&[u8]>) -> io::Result<()> {
+/// Tells a fault on standard error; of words also which number is wrong, and of a script the place, where the input is known.
+fn tell_fault(
+    rt: &HostRuntime,
+    status: &Status,
+    words: &[String],
+    input: Option<&[u8]>,
+) -> io::Result<()> {
     let Some(fault) = status.fault() else {
         return Ok(());
     };
     eprintln!(rt; "zj: {fault}")?;
     match (fault, input) {
+        (Fault::Words, _) => tell_sizes(rt, words),
         (Fault::Script { kind, line, column }, Some(text)) => {
             tell_place(rt, text, *kind, *line, *column)
         }

@@ -10,8 +10,13 @@ const IN_FRONT: usize = 60;
 /// How many bytes of a line are shown from the column on.
 const FROM_COLUMN: usize = 20;
 
-/// Tells on standard error the line of a script that is refused, with a mark under the column, and what was due there. A long line
-/// is shown in part, and each byte that isn't printed as a `?`. Nothing is told of a place outside of the text.
+/// The acts that the language has and the program refuses.
+const UNBUILT: &str =
+    "not built yet: fsync, begin, take, look, stop, drop, commit, sync and checkpoint";
+
+/// Tells on standard error the line of a script that is refused, with a mark under the column, and what was due there: where
+/// that is an act, also which acts aren't built yet. A long line is shown in part, and each byte that isn't printed as a `?`.
+/// Nothing is told of a place outside of the text.
 pub fn tell_place(
     rt: &HostRuntime,
     text: &[u8],
@@ -27,10 +32,14 @@ pub fn tell_place(
     let shown = printed(rt.alloc(), &bytes[start..], place - start + FROM_COLUMN)?;
     let mark = marked(rt.alloc(), place - start)?;
     eprintln!(rt; "{}\n{}", shown.as_str(), mark.as_str())?;
-    if let Some(kind) = Kind::from_number(kind) {
-        eprintln!(rt; "{}", kind.due())?;
+    let Some(kind) = Kind::from_number(kind) else {
+        return Ok(());
+    };
+    eprintln!(rt; "{}", kind.due())?;
+    match kind {
+        Kind::BadCall => eprintln!(rt; "{UNBUILT}"),
+        _ => Ok(()),
     }
-    Ok(())
 }
 
 /// The bytes of the line with a number, from 1, without its line feed.

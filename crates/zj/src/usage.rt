@@ -70,9 +70,9 @@ would keep, as
 An image of more cores than one is refused as not built yet, with status 3.
 
 Status: 0 done; and with a text on standard error: 1 the words are no command,
-2 the input is refused, 3 a device of the image is absent, exists already or
-holds something else, 4 a device failed, 5 out of memory, 6 reading standard input
-failed, 7 writing failed.
+2 the input is refused, 3 a device of the image is absent, exists already, holds
+something else or is not built yet, 4 a device failed, 5 out of memory, 6 reading
+standard input failed, 7 writing failed.
 ";
 
 /// The text that the words ask for, or None where they are for the top call.

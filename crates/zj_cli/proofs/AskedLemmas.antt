@@ -8,7 +8,8 @@ use Rattle.zj_script.specs.declared.fault.ScriptFault.TheVariants as refusals
 use Rattle.zj_script.specs.Script.{EndsFrontOfSchedule, IsNoSchedule}
 use Rattle.zj_cli.specs.declared.status.Fault.{Fault}
 use Rattle.zj_cli.specs.declared.status.Fault.TheVariants as faults
-use Rattle.zj_cli.specs.Asked.{AreBuilt, IsUnbuiltAt, IsUnbuiltFault, RefusesInput, act_column, fault_of_script, is_built}
+use Rattle.zj_cli.specs.Asked.{AreBuilt, IsUnbuiltAt, IsUnbuiltFault, RefusesInput, act_column, is_built}
+use Rattle.zj_cli.specs.Faults.{fault_of_script}
 
 -- a list round one of its elements
 round : {X : Type 0} (xs : List X) (i : ℕ) (x : X) → slice_get xs i ≡ Some x → xs ≡ take i xs ++ x ∷ drop (i + 1) xs

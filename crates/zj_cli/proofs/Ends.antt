@@ -1,10 +1,11 @@
 -- How `check` ends, by how it printed and how it closed.
 use Rattle.std.proofs.Common.{◌≡◌, ◌⊎◌, ℕ, List, [], ◌++◌, Some, sym, subst, inl, inr, append-nil}
-use Rattle.std.specs.Prelude.{IfErr, OnOk, Result, Ok, Err}
+use Rattle.std.specs.Prelude.{IfErr, IsErrAnd, MatchResult, OnOk, Result, Ok, Err}
 use Rattle.std.specs.Result.{result_and, result_err}
 use Rattle.zj_dev.specs.Fault.{Rose}
 use Rattle.zj_dev.specs.Stream.{Took}
 use Rattle.zj_dev.specs.declared.device.Device.{Device}
+use Rattle.zj_mount.specs.declared.fault.CloseFault.{CloseFault}
 use Rattle.zj_cli.specs.declared.status.Fault.{Fault}
 use Rattle.zj_cli.specs.declared.status.Fault.TheVariants as faults
 use Rattle.zj_cli.specs.declared.status.ImageFault.{ImageFault}
@@ -18,6 +19,15 @@ on_ok (Err e) to is = tt
 pub if_err : {T E : Type 0} → (r : Result T E) {P Q : E → Type 0} → ((e : E) → P e → Q e) → IfErr r P → IfErr r Q
 if_err (Ok x) to is = tt
 if_err (Err e) to is = to e is
+
+-- how closing went, told as the program's fault
+abbrev pub IsTold : {T : Type 0} → Result T CloseFault → Result T Fault → Type 0
+IsTold closed told = MatchResult closed (λ x. told ≡ Ok x) (λ e. IsErrAnd told (λ fault. fault ≡ faults.Device e.device))
+
+pub told_quiet : {T : Type 0} → (Q : Type 0) (closed : Result T CloseFault) (told : Result T Fault) → IsTold closed told → OnOk closed Q → OnOk told Q
+told_quiet Q (Ok x) told is quiet = subst (λ r. OnOk r Q) (sym is) quiet
+told_quiet Q (Err e) (Ok x) is quiet = absurd is
+told_quiet Q (Err e) (Err fault) is quiet = tt
 
 module _ (before after : Outside) where
   -- a fault that comes before anything is written
@@ -42,6 +52,12 @@ module _ (before after : Outside) where
   -- why closing failed
   abbrev pub FailsToClose : Fault → Type 0
   FailsToClose fault = (device : Device) × (fault ≡ faults.Device device) × IsDeviceCause before.names after.names before.shelf_faults after.shelf_faults device × Rose before.shelf_faults after.shelf_faults
+
+  pub told_failed : {T : Type 0} → (closed : Result T CloseFault) (told : Result T Fault) → IsTold closed told
+      → IfErr closed (λ e. IsDeviceCause before.names after.names before.shelf_faults after.shelf_faults e.device × Rose before.shelf_faults after.shelf_faults) → IfErr told FailsToClose
+  told_failed (Ok x) told is failed = subst (λ r. IfErr r FailsToClose) (sym is) tt
+  told_failed (Err e) (Ok x) is failed = absurd is
+  told_failed (Err e) (Err fault) is failed = (e.device, is, failed.0, failed.1)
 
   pub ends : {T U : Type 0} → (printed : Result T Fault) (closed : Result U Fault) → after.input_faults ≡ before.input_faults
       → OnOk printed (Tells before after [] × (after.output_faults ≡ before.output_faults)) → IfErr printed FailsToPrint

@@ -4,11 +4,5 @@ pub mod StreamLemmas
 pub mod WordLemmas
 pub mod Ends
 pub mod PlayLemmas
-pub mod SetLemmas
-pub mod OpenLemmas
-pub mod ScanLemmas
-pub mod CloseLemmas
 pub mod CheckLemmas
 pub mod MakeLemmas
-pub mod MountLemmas
-pub mod Refused

@@ -19,8 +19,8 @@ use Rattle.zj_layout.specs.Shows.{Shows}
 use Rattle.zj_cli.specs.declared.status.Fault.{Fault}
 use Rattle.zj_cli.specs.Make.{IsBegun, IsClosing, IsCreateCause, IsFailedHome, IsHomeCause, IsInSet, IsMadeHome, IsNew, IsNewHome, IsNewJournal, MakeEnds, MakesJournals, MakesNext, MakesSet}
 use Rattle.zj_cli.specs.Outside.{Outside}
-use Rattle.zj_cli.specs.Set.{home_name, journal_name}
-use Rattle.zj_cli.proofs.SetLemmas.{journals_differ}
+use Rattle.zj_mount.specs.Set.{home_name, journal_name}
+use Rattle.zj_mount.proofs.SetLemmas.{journals_differ}
 
 -- ---- journals
 

@@ -1,7 +1,6 @@
 -- What the lines of a schedule ask for: which acts are built, and where an input is refused.
 use Rattle.std.specs.Prelude.{◌≡◌, ℕ, ◌+◌, Bool, true, false, List, ◌∷◌, ◌++◌, ◌⊎◌, length, All, IsTrue, Option, Some, None, nat_lt, if◌then◌else◌}
 use Rattle.zj_tree.specs.declared.call.Call.TheVariants as calls
-use Rattle.zj_script.specs.declared.fault.ScriptFault.{ScriptFault}
 use Rattle.zj_script.specs.declared.fault.ScriptFault.TheVariants as refusals
 use Rattle.zj_script.specs.declared.kind.Kind.TheVariants as kinds
 use Rattle.zj_script.specs.declared.line.Act.{Act}
@@ -40,7 +39,8 @@ pub record IsUnbuiltAt (lines : List Line) (kind line column : ℕ) : Type 0 whe
   pub line_is : line ≡ first.number
   pub column_is : column ≡ act_column first.core
 
--- The first line that is refused is no line of a schedule, and all acts before it are built.
+-- A line is refused that is no line of a schedule: the lines in front of it spell these lines, whose acts are all built, and the
+-- kind and the column are those with which the grammar refuses it.
 pub record LeavesGrammar (cores : ℕ) (input : List ℕ) (kind line column : ℕ) : Type 0 where
   pub front : List (List ℕ)
   pub lines : List Line
@@ -49,7 +49,8 @@ pub record LeavesGrammar (cores : ℕ) (input : List ℕ) (kind line column : �
   pub line_is : line ≡ length front + 1
   pub refused : IsNoSchedule cores input (refusals.Refused kind line column)
 
--- The lines before any that is no line of a schedule ask for an act that isn't built.
+-- A line is refused whose act isn't built: it is the first such one of these lines, which the first lines of the input spell. What
+-- stands behind them may be no line of a schedule.
 pub record AsksForUnbuilt (cores : ℕ) (input : List ℕ) (kind line column : ℕ) : Type 0 where
   pub front : List (List ℕ)
   pub lines : List Line
@@ -69,8 +70,3 @@ IsRefusedAt cores input kind line column = LeavesGrammar cores input kind line c
 abbrev pub RefusesInput : ℕ → List ℕ → Fault → Type 0
 RefusesInput cores input (faults.Script kind line column) = IsRefusedAt cores input kind line column
 RefusesInput cores input fault = fault ≡ faults.Memory
-
--- the fault of a place where a script or a schedule is refused
-abbrev pub fault_of_script : ScriptFault → Fault
-fault_of_script (refusals.Refused kind line column) = faults.Script kind line column
-fault_of_script refusals.NoMemory = faults.Memory

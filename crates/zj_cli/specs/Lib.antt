@@ -1,11 +1,8 @@
 pub mod Outside
+pub mod Faults
 pub mod Tool
 pub mod Play
-pub mod Set
 pub mod Asked
 pub mod Check
-pub mod Opening
-pub mod Scanning
-pub mod Image
 pub mod Make
 pub mod Mount

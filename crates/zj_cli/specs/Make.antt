@@ -11,12 +11,12 @@ use Rattle.zj_home.specs.Super.{OpensAs, home_length}
 use Rattle.zj_home.specs.Made.{IsNoImage, first_super}
 use Rattle.zj_area.specs.Ring.{Holds}
 use Rattle.zj_tree.specs.Tree.{root_alone}
+use Rattle.zj_mount.specs.Image.{ShowsIn}
+use Rattle.zj_mount.specs.Set.{home_name, journal_name}
 use Rattle.zj_cli.specs.declared.status.ImageFault.TheVariants as images
 use Rattle.zj_cli.specs.declared.status.Fault.{Fault}
 use Rattle.zj_cli.specs.declared.status.Fault.TheVariants as faults
-use Rattle.zj_cli.specs.Image.{ShowsIn}
 use Rattle.zj_cli.specs.Outside.{MeetsNoFault, Outside}
-use Rattle.zj_cli.specs.Set.{home_name, journal_name}
 
 -- the name was free, and now a device stands there that has this property
 abbrev pub IsNew : (DiskView → Type 0) → Slot → Slot → Type 0

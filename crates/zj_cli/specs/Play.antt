@@ -16,13 +16,13 @@ use Rattle.zj_script.specs.declared.line.Line.{Line}
 use Rattle.zj_script.specs.Answers.{answer_text}
 use Rattle.zj_script.specs.declared.script.TheConstants.{MAX_BYTES}
 use Rattle.zj_script.specs.Script.{IsSchedule}
+use Rattle.zj_mount.specs.Set.{AllBack}
 use Rattle.zj_cli.specs.declared.status.Fault.{Fault}
 use Rattle.zj_cli.specs.declared.status.Fault.TheVariants as faults
 use Rattle.zj_cli.specs.Asked.{AreBuilt, IsRefusedAt}
 use Rattle.zj_cli.specs.Check.{IsDeviceCause}
 use Rattle.zj_cli.specs.Mount.{IsTreeCause, Mounts}
 use Rattle.zj_cli.specs.Outside.{IsUnwritten, Outside}
-use Rattle.zj_cli.specs.Set.{AllBack}
 
 -- the call of a line with such an act, if that is a whole call
 abbrev pub made_by : Line → Act → List (Line × Call)
@@ -42,7 +42,7 @@ abbrev pub answers_from : Limits → FileTree → ℕ → List (Line × Call) �
 answers_from limits tree ticket [] = []
 answers_from limits tree ticket (made ∷ later) = answer_to limits tree ticket made ∷ answers_from limits (apply limits made.1 tree).1 (ticket + 1) later
 
--- A source gave these bytes, one more at most than a script may have.
+-- A source gave these bytes, one more at most than a schedule may have.
 pub record Reads (old new : Option (List ℕ)) (read : List ℕ) : Type 0 where
   pub gave : Gave old new read
   pub at_most : length read ≤ MAX_BYTES + 1
@@ -78,7 +78,7 @@ pub record StopsEarly (before after : Outside) : Type 0 where
   pub reads : Reads before.left after.left read
   pub unwritten : IsUnwritten before after
 
--- How reading and playing a script ends, for so many cores and from a tree on.
+-- How reading and playing a schedule ends, for so many cores and from a tree on.
 abbrev pub ScriptEnds : ℕ → Limits → FileTree → Outside → Outside → Option Fault → Type 0
 ScriptEnds cores limits tree before after None = Plays cores limits tree before after [] × (after.input_faults ≡ before.input_faults) × (after.output_faults ≡ before.output_faults)
 ScriptEnds cores limits tree before after (Some (faults.Script kind line column)) = RefusesScript cores before after kind line column
@@ -87,7 +87,7 @@ ScriptEnds cores limits tree before after (Some faults.Input) = StopsEarly befor
 ScriptEnds cores limits tree before after (Some faults.Output) = ((rest : List ℕ) × Plays cores limits tree before after rest) × Rose before.output_faults after.output_faults
 ScriptEnds cores limits tree before after (Some fault) = ⊥
 
--- The image on the shelf shows a tree, and playing a script from it on ended so.
+-- The image on the shelf shows a tree, and playing a schedule from it on ended so.
 pub record PlaysFrom (before after : Outside) (fault : Option Fault) : Type 0 where
   pub super : Super
   pub tree : FileTree
@@ -98,7 +98,7 @@ pub record PlaysFrom (before after : Outside) (fault : Option Fault) : Type 0 wh
 abbrev pub IsUnread : Outside → Outside → Type 0
 IsUnread before after = (after.left ≡ before.left) × IsUnwritten before after
 
--- How `play` ends: before the script was read, as the image gives no tree or a device failed; or with the script; or, where that
+-- How `play` ends: before the input was read, as the image gives no tree or a device failed; or with the schedule; or, where that
 -- was played to its end, with a fault of closing.
 abbrev pub PlayEnds : Outside → Outside → Option Fault → Type 0
 PlayEnds before after None = PlaysFrom before after None × (after.shelf_faults ≡ before.shelf_faults)

@@ -4,12 +4,8 @@
 
 mod asked;
 mod check;
-mod close;
 mod make;
-mod mount;
 mod play;
-mod scan;
-mod set;
 mod status;
 mod stream;
 mod tool;

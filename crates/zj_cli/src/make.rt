@@ -2,21 +2,22 @@
 
 ghost use Rattle.std.specs.Prelude.{◌≡◌, ◌<◌, ◌≤◌, ℕ, List, Option, Some, IfOk, IfErr, OnOk, OnErr, length};
 ghost use Rattle.std.specs.Result.{result_err};
-ghost use Rattle.zj_dev.specs.Shelf.{Creates, OthersStay};
+ghost use Rattle.zj_dev.specs.Fault.{Rose};
+ghost use Rattle.zj_dev.specs.Shelf.{Closes, Creates, OthersStay};
 ghost use Rattle.zj_dev.specs.declared.device.Device.TheVariants as devices;
 ghost use Rattle.zj_layout.specs.Shows.{Shows};
 ghost use Rattle.zj_tree.specs.Tree.{root_alone};
+ghost use Rattle.zj_mount.specs.Set.{home_name, journal_name};
+ghost use Rattle.zj_cli.specs.declared.status.Fault.TheVariants as faults;
 ghost use Rattle.zj_cli.specs.Make.{IsClosing, IsCreateCause, IsHomeCause, IsMadeHome, IsNew, IsNewJournal, MakeEnds, MakesJournals, MakesNext};
-ghost use Rattle.zj_cli.specs.Set.{home_name, journal_name};
 
-use crate::close::put_back;
-use crate::set::{HOME, home_fault, journal_name};
 use crate::status::{Fault, ImageFault};
 use std::alloc::Global;
 use zj_block::{Blocks, Sizes};
 use zj_dev::{Device, Shelf};
 use zj_home::{Home, home_len};
 use zj_layout::format;
+use zj_mount::{HOME, journal_name};
 
 /// Makes a device of zero bytes under a name that is free. It is then out of the shelf.
 fn create<H: Shelf>(shelf: &mut H, device: Device, name: &str, len: u64) -> Result<H::D, Fault>
@@ -29,6 +30,20 @@ fn create<H: Shelf>(shelf: &mut H, device: Device, name: &str, len: u64) -> Resu
     match shelf.create(name, len) {
         Ok(Some(d)) => Ok(d),
         Ok(None) => Err(Fault::Image(ImageFault::Exists { device })),
+        Err(_) => Err(Fault::Device { device }),
+    }
+}
+
+/// Puts a device that was made onto its shelf, under its name.
+fn put_back<H: Shelf>(shelf: &mut H, device: Device, name: &str, d: H::D) -> Result<(), Fault>
+    ensures closed { Closes (H.D.view d) (H.names shelf.old name.now) (H.names shelf.new name.now) }
+    ensures others { OthersStay name.now (H.names shelf.old) (H.names shelf.new) }
+    ensures cause { IfErr result (λ fault. (fault ≡ faults.Device device) × Rose (H.faults shelf.old) (H.faults shelf.new)) }
+    ensures quiet { OnOk result (H.faults shelf.new ≡ H.faults shelf.old) }
+    ensures no_fewer { H.faults shelf.old ≤ H.faults shelf.new }
+{
+    match shelf.close(name, d) {
+        Ok(()) => Ok(()),
         Err(_) => Err(Fault::Device { device }),
     }
 }
@@ -83,12 +98,14 @@ fn make_home<H: Shelf>(
     ensures closing { IfOk result (λ closed. IsClosing sizes.now (H.faults shelf.old) (H.faults shelf.new) (result_err closed)) }
     ensures no_fewer { H.faults shelf.old ≤ H.faults shelf.new }
 {
-    let d = create(shelf, Device::Home, HOME, home_len(sizes))?;
+    let device = Device::Home;
+    let d = create(shelf, device, HOME, home_len(sizes))?;
     match Home::make(alloc, d, sizes, blocks) {
-        Ok(home) => Ok(put_back(shelf, Device::Home, HOME, home.into_device())),
+        Ok(home) => Ok(put_back(shelf, device, HOME, home.into_device())),
         Err(refused) => {
+            // It is the device that failed: nothing else keeps a home from being made.
             let _ = shelf.close(HOME, refused.device);
-            Err(home_fault(refused.fault))
+            Err(Fault::Device { device })
         }
     }
 }

@@ -1,6 +1,6 @@
 //! `play`: the calls of a schedule in order, each on the blocks that those before it left.
 
-ghost use Rattle.std.specs.Prelude.{◌≡◌, ◌≢◌, ◌⊎◌, ◌++◌, ℕ, IfErr, IfOk, IsErr, OnOk, OnErr};
+ghost use Rattle.std.specs.Prelude.{◌≡◌, ◌≢◌, ◌⊎◌, ◌++◌, ℕ, IfErr, IfOk, IsErr, OnOk, OnErr, length};
 ghost use Rattle.std.specs.List.{flat_map};
 ghost use Rattle.std.specs.Result.{result_err};
 ghost use Rattle.zj_dev.specs.Disk.{OnlyReads};
@@ -9,32 +9,30 @@ ghost use Rattle.zj_tree.specs.Apply.{apply};
 ghost use Rattle.zj_tree.specs.Tree.{FileTree};
 ghost use Rattle.zj_layout.specs.Shows.{Shows, limits_of};
 ghost use Rattle.zj_script.specs.Answers.{answer_text};
+ghost use Rattle.zj_mount.specs.declared.fault.MountFault.{MountFault};
+ghost use Rattle.zj_mount.specs.Mounting.{AreInOrder, HasTree, IsMountCause};
+ghost use Rattle.zj_mount.specs.Scanning.{AreRead};
 ghost use Rattle.zj_cli.specs.declared.status.Fault.TheVariants as faults;
-ghost use Rattle.zj_cli.specs.Mount.{HasTree, IsMountCause};
-ghost use Rattle.zj_cli.specs.Opening.{AllOpened};
+ghost use Rattle.zj_cli.specs.Faults.{fault_of_mounting};
 ghost use Rattle.zj_cli.specs.Play.{RunsPlay, ScriptEnds, answer_to, answers_from, calls_of};
-ghost use Rattle.zj_cli.specs.Scanning.{AreRead};
 ghost use Rattle.zj_cli.specs.Tool as tool;
 ghost use Rattle.zj_cli.specs.Tool.{IsBeforeWriting};
 
 use crate::asked::read_built;
-use crate::close::close_set;
-use crate::mount::mount;
-use crate::set::{Set, open_set};
 use crate::status::Fault;
 use crate::stream::{read_whole, write_whole};
 use std::alloc::{AllocError, Global};
-use zj_area::Area;
 use zj_dev::{Disk, Shelf, Sink, Source};
 use zj_home::Home;
+use zj_mount::{Areas, close_all, mount, open_all};
 use zj_script::{Act, Answer, Form, Line, write_answer};
 use zj_tree::{Bytes, Call};
 use zj_volume::Volume;
 
-/// Reads a schedule, makes its calls on the tree of the image on a shelf, and writes their answers. It writes no device, and all
-/// that it opened is closed again.
+/// Reads a schedule, makes its calls on the blocks of the image on a shelf, and writes their answers. It writes no device, and
+/// all that it opened is closed again.
 ///
-/// The first fault in this order counts: opening, reading the devices, the input, the script, writing to `out`, closing.
+/// The first fault in this order counts: opening, reading the devices, the input, the schedule, writing to `out`, closing.
 pub fn play<H: Shelf, S: Source, K: Sink>(
     alloc: Global,
     shelf: &mut H,
@@ -47,12 +45,9 @@ pub fn play<H: Shelf, S: Source, K: Sink>(
         (result_err result) }
     ensures unwritten { IfErr result (λ fault. IsBeforeWriting tool.Play fault → out.new ≡ out.old) }
 {
-    let Set {
-        mut home,
-        mut areas,
-    } = open_set(alloc, shelf)?;
-    let played = play_set(alloc, &mut home, &mut areas, input, out);
-    let closed = close_set(shelf, home, areas);
+    let mut set = open_all(alloc, shelf)?;
+    let played = play_set(alloc, &mut set.home, &mut set.areas, input, out);
+    let closed = close_all(shelf, set).map_err(Fault::from);
     played.and(closed)
 }
 
@@ -60,23 +55,25 @@ pub fn play<H: Shelf, S: Source, K: Sink>(
 fn play_set<D: Disk, S: Source, K: Sink>(
     alloc: Global,
     home: &mut Home<D>,
-    areas: &mut [Area<D>],
+    areas: &mut Areas<D>,
     input: &mut S,
     out: &mut K,
 ) -> Result<(), Fault>
-    requires { AllOpened home.old.told areas.old }
+    requires { AreInOrder home.old.told areas.old.areas }
     ensures told { home.new.told ≡ home.old.told }
     ensures home_read { OnlyReads (D.view home.old.device) (D.view home.new.device) }
-    ensures read { AreRead D.view areas.old areas.new }
-    ensures ends { ((tree : FileTree) × HasTree D.view home.old.told home.old.device areas.old tree
+    ensures read { AreRead D.view areas.old.areas areas.new.areas }
+    ensures count { length areas.new.areas ≡ length areas.old.areas }
+    ensures ends { ((tree : FileTree) × HasTree D.view home.old.told home.old.device areas.old.areas tree
         × ((names now : ShelfView) (faults since : ℕ) → ScriptEnds home.old.told.sizes.cores (limits_of home.old.told.sizes) tree
         (record { left = S.left input.old; held = K.held out.old; names = names; input_faults = S.faults input.old; output_faults = K.faults out.old; shelf_faults = faults })
         (record { left = S.left input.new; held = K.held out.new; names = now; input_faults = S.faults input.new; output_faults = K.faults out.new; shelf_faults = since })
         (result_err result)))
-        ⊎ (IfErr result (IsMountCause D.view home.old.told home.old.device home.new.device areas.old areas.new) × (IsErr result) × (input.new ≡ input.old) × (out.new ≡ out.old)) }
+        ⊎ (IfErr result (λ fault. (told : MountFault) × (fault ≡ fault_of_mounting told) × IsMountCause D.view home.old.told home.old.device home.new.device areas.old.areas areas.new.areas told) × (IsErr result) × (input.new ≡ input.old) × (out.new ≡ out.old)) }
     ensures unwritten { OnErr result (result ≢ Err faults.Output → out.new ≡ out.old) }
 {
-    let volume = mount(alloc, home, areas)?;
+    let recovered = mount(alloc, home, areas)?;
+    let volume = Volume::new(*recovered.sizes(), recovered.into_blocks());
     play_script(alloc, volume, input, out)
 }
 

@@ -5,7 +5,7 @@ ghost use Rattle.std.specs.Prelude.{◌≡◌, option_copied};
 use std::alloc::AllocError;
 use thiserror::Error;
 use zj_dev::{Device, ReadFailed, WriteFailed};
-use zj_layout::TreeFault;
+use zj_mount::{CloseFault, MountFault, OpenFault};
 use zj_script::ScriptFault;
 
 /// Why an image is refused.
@@ -98,23 +98,76 @@ impl From<AllocError> for Fault {
     }
 }
 
-impl From<TreeFault> for Fault {
+impl From<OpenFault> for Fault {
     ghost use Rattle.std.specs.Prelude.{◌≡◌};
-    ghost use Rattle.zj_cli.specs.Mount.{fault_of_tree};
+    ghost use Rattle.zj_cli.specs.Faults.{fault_of_opening};
 
-    ghost from_gives = { λ fault told. told ≡ fault_of_tree fault };
+    ghost from_gives = { λ fault told. told ≡ fault_of_opening fault };
 
-    fn from(fault: TreeFault) -> Fault {
+    fn from(fault: OpenFault) -> Fault {
         match fault {
-            TreeFault::NoTree { rule, block } => Fault::Image(ImageFault::NoTree { rule, block }),
-            TreeFault::NoMemory => Fault::Memory,
+            OpenFault::Absent { device } => Fault::Image(ImageFault::Absent { device }),
+            OpenFault::NotAnImage { at } => Fault::Image(ImageFault::NotAnImage { at }),
+            OpenFault::Version { found } => Fault::Image(ImageFault::Version { found }),
+            OpenFault::Sizes {
+                device,
+                found,
+                expected,
+            } => Fault::Image(ImageFault::Sizes {
+                device,
+                found,
+                expected,
+            }),
+            OpenFault::DiskFault { device } => Fault::Device { device },
+            OpenFault::ShelfFault { device } => Fault::Device { device },
+            OpenFault::NoMemory => Fault::Memory,
+        }
+    }
+}
+
+impl From<MountFault> for Fault {
+    ghost use Rattle.std.specs.Prelude.{◌≡◌};
+    ghost use Rattle.zj_cli.specs.Faults.{fault_of_mounting};
+
+    ghost from_gives = { λ fault told. told ≡ fault_of_mounting fault };
+
+    fn from(fault: MountFault) -> Fault {
+        match fault {
+            MountFault::DiskFault { device } => Fault::Device { device },
+            MountFault::Damaged {
+                device,
+                at,
+                found,
+                expected,
+            } => Fault::Image(ImageFault::Damaged {
+                device,
+                at,
+                found,
+                expected,
+            }),
+            MountFault::NoTree { rule, block } => Fault::Image(ImageFault::NoTree { rule, block }),
+            MountFault::Unbuilt { device } => Fault::Image(ImageFault::Unbuilt { device }),
+            MountFault::NoMemory => Fault::Memory,
+        }
+    }
+}
+
+impl From<CloseFault> for Fault {
+    ghost use Rattle.std.specs.Prelude.{◌≡◌};
+    ghost use Rattle.zj_cli.specs.declared.status.Fault.TheVariants.{Device};
+
+    ghost from_gives = { λ fault told. told ≡ Device fault.device };
+
+    fn from(fault: CloseFault) -> Fault {
+        Fault::Device {
+            device: fault.device,
         }
     }
 }
 
 impl From<ScriptFault> for Fault {
     ghost use Rattle.std.specs.Prelude.{◌≡◌};
-    ghost use Rattle.zj_cli.specs.Asked.{fault_of_script};
+    ghost use Rattle.zj_cli.specs.Faults.{fault_of_script};
 
     ghost from_gives = { λ fault told. told ≡ fault_of_script fault };
 

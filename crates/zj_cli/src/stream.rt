@@ -14,7 +14,7 @@ use zj_script::MAX_BYTES;
 /// How many bytes are read at once.
 const PIECE: usize = 16_384;
 
-/// Reads the source to its end, or to one byte more than a script may have.
+/// Reads the source to its end, or to one byte more than a schedule may have.
 pub fn read_whole<S: Source>(alloc: Global, input: &mut S) -> Result<Vec<u8>, Fault>
     ensures ok { IfOk result (λ bytes. ReadsInput (S.left input.old) (S.left input.new) bytes.items) }
     ensures err { OnErr result ((read : List ℕ) × Reads (S.left input.old) (S.left input.new) read) }

@@ -22,16 +22,16 @@ use zj_script::read_number;
 ///
 /// `make` makes an image on the shelf, whose tree has the root alone; it reads no input and prints nothing.
 ///
-/// `play` opens the image on the shelf, reads a script from the input, makes its calls on the tree that home shows,
-/// and writes their answers to `out`. It writes no device, and closes all that it opened: what the calls did is gone
-/// when it ends. Reading ends at the byte that is one more than a script may have. Nothing is written unless the whole
-/// script was read and all its calls have run.
+/// `play` opens the image on the shelf, reads a schedule from the input, makes its calls on home's blocks in memory, which
+/// show a tree, and writes their answers to `out`. It writes no device, and closes all that it opened: what the calls did
+/// is gone when it ends. Reading ends at the byte that is one more than a schedule may have. Nothing is written unless the
+/// whole schedule was read and all its calls have run.
 ///
 /// `check` opens the image on the shelf and writes to `out` what its journals hold; it reads no input and
 /// writes no device, and closes all that it opened.
 ///
 /// The first fault in this order counts: the words; making, or opening the devices and reading them; reading the input;
-/// the script; writing to `out`; closing the devices. It may run out of memory at any time. After a fault of
+/// the schedule; writing to `out`; closing the devices. It may run out of memory at any time. After a fault of
 /// the output a front of what was to be written is written.
 pub fn zj_tool<H: Shelf, S: Source, K: Sink>(
     alloc: Global,

@@ -69,21 +69,25 @@ IsJournalsCause before old new super fault = (core : ℕ) × (core < super.sizes
 abbrev pub IsReached : ShelfView → ℕ → (Super → Type 0) → Type 0
 IsReached before core P = (super : Super) × HasHome before super × (core < super.sizes.cores) × HasJournals before super core × P super
 
--- Why an image was not opened, by the first device that is missing, of another length or failing, home first. The shelf's count of
--- faults went from `old` to `new`. Home alone is read.
+-- Why an image is refused, by the first device that is missing or of another length, home first.
+abbrev pub IsRefusal : ShelfView → OpenFault → Type 0
+IsRefusal names (faults.Absent devices.Home) = IsMissing (names home_name)
+IsRefusal names (faults.Absent (devices.Journal core)) = IsReached names core (λ super. IsMissing (names (journal_name core)))
+IsRefusal names (faults.NotAnImage at) = OfDevice (names home_name) (λ image. image_fault image ≡ Some (homes.NotAnImage at))
+IsRefusal names (faults.Version found) = OfDevice (names home_name) (λ image. image_fault image ≡ Some (homes.Version found))
+IsRefusal names (faults.Sizes devices.Home found expected) = OfDevice (names home_name) (λ image. image_fault image ≡ Some (homes.Sizes found expected))
+IsRefusal names (faults.Sizes (devices.Journal core) found expected) =
+    IsReached names core (λ super. OfLength (names (journal_name core)) (λ len. (len ≡ found) × (expected ≡ super.sizes.area) × (found ≢ expected)))
+IsRefusal names fault = ⊥
+
+-- Why an image was not opened: home, which alone is read, failed; the shelf failed, whose count of faults went from `old` to `new`;
+-- or the image is refused.
 abbrev pub IsOpenCause : ShelfView → ShelfView → ℕ → ℕ → OpenFault → Type 0
-IsOpenCause before now old new (faults.Absent devices.Home) = IsMissing (before home_name)
-IsOpenCause before now old new (faults.Absent (devices.Journal core)) = IsReached before core (λ super. IsMissing (before (journal_name core)))
-IsOpenCause before now old new (faults.NotAnImage at) = OfDevice (before home_name) (λ image. image_fault image ≡ Some (homes.NotAnImage at))
-IsOpenCause before now old new (faults.Version found) = OfDevice (before home_name) (λ image. image_fault image ≡ Some (homes.Version found))
-IsOpenCause before now old new (faults.Sizes devices.Home found expected) = OfDevice (before home_name) (λ image. image_fault image ≡ Some (homes.Sizes found expected))
-IsOpenCause before now old new (faults.Sizes (devices.Journal core) found expected) =
-    IsReached before core (λ super. OfLength (before (journal_name core)) (λ len. (len ≡ found) × (expected ≡ super.sizes.area) × (found ≢ expected)))
 IsOpenCause before now old new (faults.DiskFault devices.Home) = RoseUnder (before home_name) (now home_name)
-IsOpenCause before now old new (faults.DiskFault (devices.Journal core)) = ⊥
 IsOpenCause before now old new (faults.ShelfFault devices.Home) = Rose old new
 IsOpenCause before now old new (faults.ShelfFault (devices.Journal core)) = IsReached before core (λ super. Rose old new)
 IsOpenCause before now old new faults.NoMemory = ⊤
+IsOpenCause before now old new fault = IsRefusal before fault
 
 -- ---- why devices were not put back
 

@@ -58,6 +58,7 @@ fn close_areas<H: Shelf>(shelf: &mut H, areas: Areas<H::D>) -> Result<(), CloseF
 pub fn close_all<H: Shelf>(shelf: &mut H, set: Set<H::D>) -> Result<(), CloseFault>
     requires { length set.areas.areas ≤ MAX_CORES }
     ensures closed { (before : ShelfView) → IsOut H.D.view before (H.names shelf.old) (H.D.view set.home.device) set.areas.areas → IsClosed H.D.view before (H.names shelf.new) (H.D.view set.home.device) set.areas.areas }
+    ensures back { (before : ShelfView) → IsOut H.D.view before (H.names shelf.old) (H.D.view set.home.device) set.areas.areas → AllBack before (H.names shelf.new) }
     ensures cause { IfErr result (λ fault. IsOfSet (length set.areas.areas) fault.device × Rose (H.faults shelf.old) (H.faults shelf.new)) }
     ensures quiet { OnOk result (H.faults shelf.new ≡ H.faults shelf.old) }
     ensures no_fewer { H.faults shelf.old ≤ H.faults shelf.new }

@@ -5,10 +5,11 @@
 //! - `open_all` (`out`, `home`, `journals`, `opened`): home and the journals from core 0 on are out of their shelf, home opens, and
 //!   each journal is as long as home says. Else (`cause`) the first device that is missing, of another length or failing, where a
 //!   disk's count of faults and the shelf's are told apart; and (`back`) all that were taken out stand where they stood.
-//! - `close_all` (`closed`): home and then the journals stand again, also where the shelf fails (`cause`).
+//! - `close_all` (`closed`, `back`): home and then the journals stand again, also where the shelf fails (`cause`).
 //! - `mount` (`blocks`, `shows`, `tree`, `journals`): home's blocks, the tree that they show, and what the journals held, none of
 //!   which holds a record. Else (`cause`) the first journal that can't be read; the first that holds a record; or why home gives
 //!   no tree. It writes no device (`home_read`, `read`).
+//! - `journal_name` and `HOME`: under which names the devices stand.
 //! - `Areas::pop` and `Areas::push` take no memory: a place that was given up is spare (`some` and `spare`).
 #![tactic(auto)]
 
@@ -25,6 +26,10 @@ pub use areas::Areas;
 pub use closing::close_all;
 pub use fault::{CloseFault, MountFault, OpenFault};
 pub use mounting::mount;
+pub use names::{HOME, journal_name};
 pub use opening::{Set, open_all};
 pub use recovered::Recovered;
 pub use scanning::scan_all;
+
+#[cfg(test)]
+mod tests;

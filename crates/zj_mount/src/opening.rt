@@ -161,7 +161,7 @@ fn open_journals<H: Shelf>(
 }
 
 /// The devices of an image, out of their shelf.
-#[derive(Debug)]
+#[derive(Debug, Drop)]
 pub struct Set<D: Disk> {
     /// The home device.
     pub home: Home<D>,

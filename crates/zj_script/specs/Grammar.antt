@@ -45,12 +45,15 @@ verb_of (calls.Fsync path) = verbs.Fsync
 abbrev pub Part : Type 0
 Part = Kind × List ℕ
 
+-- the word of a path
 abbrev pub path_part : List (List ℕ) → Part
 path_part path = (kinds.BadPath, path_text path)
 
+-- the word of a number
 abbrev pub number_part : ℕ → Part
 number_part number = (kinds.BadNumber, decimal number)
 
+-- the word of a file's bytes
 abbrev pub text_part : List ℕ → Part
 text_part bytes = (kinds.BadText, bytes_text bytes)
 

@@ -66,6 +66,7 @@ Opens sets.Script (openings.Call verb) = Unit {0}
 Opens sets.Script opening = ⊥
 Opens sets.Schedule opening = Unit {0}
 
+-- a word that opens an act of a script, or of a schedule
 abbrev pub IsOpening : Acts → List ℕ → Type 0
 IsOpening set word = (opening : Opening) × Opens set opening × (word ≡ opening_word opening)
 
@@ -79,6 +80,7 @@ IsCore set cores (Some core) = core < cores
 IsCore sets.Schedule cores None = Unit {0}
 IsCore sets.Script cores None = ⊥
 
+-- the word of a core below the count of cores, or `checkpoint` where it can stand
 abbrev pub IsCoreWord : Acts → ℕ → List ℕ → Type 0
 IsCoreWord set cores word = (core : Option ℕ) × IsCore set cores core × (word ≡ core_word core)
 

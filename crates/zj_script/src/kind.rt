@@ -58,7 +58,8 @@ impl Kind {
             Kind::BadCore =>
                 "due: a core below the image's count of cores, or in a schedule checkpoint",
             Kind::BadCall => "due: a call or an act that can stand here, or the end of the line",
-            Kind::BadPath => "due: a path, as / or /a/b, of at most 16 names",
+            Kind::BadPath =>
+                "due: a path, as / or /a/b, of at most 16 names, each of at most 26 letters, digits, and . _ -",
             Kind::BadNumber => "due: a number from 0 to 4294967295, without leading zeros",
             Kind::BadText =>
                 "due: the bytes of a file, as a%20b, where % and each byte that isn't printed is % and two lower-case digits",

@@ -1,12 +1,9 @@
-use Rattle.std.proofs.Common.{◌∙◌, List, length, refl, sym, ap, subst, inl, inr}
+use Rattle.std.proofs.Common.{◌∙◌, refl, sym, ap, subst, inl, inr}
 use Rattle.std.specs.Result.{result_err}
-use Rattle.zj_area.specs.Journal.{AreaView}
-use Rattle.zj_cli.specs.Mount.{HasTree}
 use Rattle.zj_cli.specs.Outside.{Outside}
 use Rattle.zj_cli.specs.Play.{PlayEnds}
-use Rattle.zj_cli.proofs.CheckLemmas.{as_many, close_cause, closes, mount_cause, mounts}
-use Rattle.zj_cli.proofs.CloseLemmas.{all_back}
-use Rattle.zj_cli.proofs.Ends.{if_err, on_ok}
+use Rattle.zj_cli.proofs.CheckLemmas.{close_cause, mount_cause, mounts_tree, out_read}
+use Rattle.zj_cli.proofs.Ends.{if_err, on_ok, told_failed, told_quiet}
 use Rattle.zj_cli.proofs.PlayLemmas.{play_ends}
 use Rattle.zj_cli.proofs.play.play.Goals as goal
 
@@ -14,34 +11,36 @@ pub returns-clause-runs : goal.returns-clause-runs
 returns-clause-runs g c =
     let view = g.H.D.Disk.view in
     let before = g.H.Shelf.names c.args.shelf.now in
-    let mid = g.H.Shelf.names c.open_set.new.shelf in
-    let now = g.H.Shelf.names c.close_set-closed.new.shelf in
-    let d = c.in_ok-home.field-0.home.device in
+    let mid = g.H.Shelf.names c.open_all.new.shelf in
+    let now = g.H.Shelf.names c.close_all.new.shelf in
+    let opened = c.in_ok-set.ensures in
+    let played = c.play_set-played.ensures in
+    let d = c.in_ok-set.set.home.device in
     let d' = c.play_set-played.new.home.device in
-    let super = c.in_ok-home.field-0.home.told in
-    let old = c.deref_mut.result.now in
-    let new = c.play_set-played.new.areas in
-    let many = c.play_set-played.auto.areas ∙ c.deref_mut.ensures.len in
-    let both = closes view before mid now (view d) (view d') c.in_ok-home.field-0.areas.items old new c.in_ok-home.field-0.areas.len c.in_ok-home.ensures.out c.play_set-played.ensures.home_read c.deref_mut.ensures.value c.play_set-played.ensures.read many (c.close_set-closed.ensures.closed before) in
-    let opened = rw (← c.deref_mut.ensures.value) at c.in_ok-home.ensures.opened in
+    let super = c.in_ok-set.set.home.told in
+    let old = c.in_ok-set.set.areas.areas in
+    let new = c.play_set-played.new.areas.areas in
+    let out = out_read view before mid (view d) (view d') old new opened.out played.home_read played.read in
+    let closed = c.close_all.ensures.closed before out in
     let outside : Outside = record { left = g.S.Source.left c.args.input.now; held = g.K.Sink.held c.args.out.now; names = before; input_faults = g.S.Source.faults c.args.input.now; output_faults = g.K.Sink.faults c.args.out.now; shelf_faults = g.H.Shelf.faults c.args.shelf.now } in
-    let after : Outside = record { left = g.S.Source.left c.play_set-played.new.input; held = g.K.Sink.held c.play_set-played.new.out; names = now; input_faults = g.S.Source.faults c.play_set-played.new.input; output_faults = g.K.Sink.faults c.play_set-played.new.out; shelf_faults = g.H.Shelf.faults c.close_set-closed.new.shelf } in
+    let after : Outside = record { left = g.S.Source.left c.play_set-played.new.input; held = g.K.Sink.held c.play_set-played.new.out; names = now; input_faults = g.S.Source.faults c.play_set-played.new.input; output_faults = g.K.Sink.faults c.play_set-played.new.out; shelf_faults = g.H.Shelf.faults c.close_all.new.shelf } in
     record {
-      back = all_back view before now (view d') new both.1;
-      ends = subst (λ fault. PlayEnds outside after fault) (sym (ap (λ r. result_err r) c.and.ensures)) (play_ends outside after c.play_set-played.result c.close_set-closed.result
-          (elim c.play_set-played.ensures.ends [
+      back = c.close_all.ensures.back before out;
+      ends = subst (λ fault. PlayEnds outside after fault) (sym (ap (λ r. result_err r) c.and.ensures)) (play_ends outside after c.play_set-played.result c.map_err-closed.result
+          (elim played.ends [
             | inl from ↦ inl (record {
               super = super;
               tree = from.0;
-              mounts = mounts view before mid now (view d) (view d') old new super both.0 both.1 opened c.in_ok-home.ensures.home c.in_ok-home.ensures.journals d from.0 refl (subst (λ (l : List (AreaView _)). HasTree view super d l from.0) refl from.1);
-              script = from.2 before now (g.H.Shelf.faults c.args.shelf.now) (g.H.Shelf.faults c.close_set-closed.new.shelf);
+              mounts = mounts_tree view before mid now (view d) (view d') old new super opened.out closed opened.in_order opened.home opened.journals d from.0 refl from.1;
+              script = from.2 before now (g.H.Shelf.faults c.args.shelf.now) (g.H.Shelf.faults c.close_all.new.shelf);
             })
             | inr none ↦ inr (
-              if_err c.play_set-played.result (λ fault. mount_cause view before mid now (view d) (view d') old new super both.0 both.1 opened c.in_ok-home.ensures.home c.in_ok-home.ensures.journals (g.H.Shelf.faults c.args.shelf.now) (g.H.Shelf.faults c.close_set-closed.new.shelf) d d' fault refl refl c.play_set-played.ensures.home_read.goes_on.no_fewer) none.0,
+              if_err c.play_set-played.result (λ fault. mount_cause view before mid now (view d) (view d') old new super opened.out closed opened.in_order opened.home opened.journals (g.H.Shelf.faults c.args.shelf.now) (g.H.Shelf.faults c.close_all.new.shelf) d d' fault refl refl) none.0,
               none.1,
               (ap g.S.Source.left none.2, ap g.K.Sink.held none.3),
             )
           ])
-          (on_ok c.close_set-closed.result (λ quiet. quiet ∙ c.in_ok-home.ensures.quiet) c.close_set-closed.ensures.quiet)
-          (if_err c.close_set-closed.result (λ fault. close_cause view before mid now (view d) (view d') old new super both.0 both.1 opened c.in_ok-home.ensures.home c.in_ok-home.ensures.journals _ (g.H.Shelf.faults c.args.shelf.now) (g.H.Shelf.faults c.open_set.new.shelf) (g.H.Shelf.faults c.close_set-closed.new.shelf) fault (as_many c.in_ok-home.field-0.areas.items new c.in_ok-home.field-0.areas.len many ∙ (sym many ∙ (c.play_set-played.auto.areas ∙ (ap length c.deref_mut.ensures.value ∙ c.in_ok-home.ensures.opened.many)))) c.open_set.ensures.no_fewer) c.close_set-closed.ensures.cause));
+          (told_quiet _ c.close_all.result c.map_err-closed.result c.map_err-closed.ensures.cases (on_ok c.close_all.result (λ quiet. quiet ∙ opened.quiet) c.close_all.ensures.quiet))
+          (told_failed outside after c.close_all.result c.map_err-closed.result c.map_err-closed.ensures.cases
+          (if_err c.close_all.result (λ fault. close_cause view before mid now (view d) (view d') old new super opened.out closed opened.in_order opened.home opened.journals _ (g.H.Shelf.faults c.args.shelf.now) (g.H.Shelf.faults c.open_all.new.shelf) (g.H.Shelf.faults c.close_all.new.shelf) fault.device (played.count ∙ opened.in_order.many) c.open_all.ensures.no_fewer) c.close_all.ensures.cause)));
     }

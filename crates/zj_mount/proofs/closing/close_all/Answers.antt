@@ -3,7 +3,7 @@ use Rattle.zj_dev.specs.Shelf.{Closes}
 use Rattle.zj_mount.specs.Set.{home_name}
 use Rattle.zj_dev.specs.declared.device.Device.TheVariants as devices
 use Rattle.zj_mount.specs.Opening.{IsJournalBelow, IsOfSet}
-use Rattle.zj_mount.proofs.CloseLemmas.{closed_all, first_fault, weaker}
+use Rattle.zj_mount.proofs.CloseLemmas.{all_back, closed_all, first_fault, weaker}
 use Rattle.zj_mount.proofs.closing.close_all.Goals as goal
 
 pub returns-clause-closed : goal.returns-clause-closed
@@ -14,6 +14,11 @@ returns-clause-closed g c before out =
     closed_all g.H.D.Disk.view before old mid new (g.H.D.Disk.view c.args.set.home.device) c.args.set.areas.areas c.requires out
     (subst (λ d. Closes (g.H.D.Disk.view d) (old home_name) (mid home_name)) c.into_device.ensures c.put_back-closed.ensures.closed)
     c.put_back-closed.ensures.others c.close_areas.ensures.closed c.close_areas.ensures.others
+
+pub returns-clause-back : goal.returns-clause-back
+returns-clause-back g c before out =
+    all_back g.H.D.Disk.view before (g.H.Shelf.names c.close_areas.new.shelf) (g.H.D.Disk.view c.args.set.home.device) c.args.set.areas.areas
+    (returns-clause-closed g c before out)
 
 pub returns-clause-cause : goal.returns-clause-cause
 returns-clause-cause g c =

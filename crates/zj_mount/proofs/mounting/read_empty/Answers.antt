@@ -1,4 +1,3 @@
-use Rattle.std.proofs.Common.{◌∙◌}
 use Rattle.std.proofs.lemmas.Result.{err_from_is_err_and}
 use Rattle.zj_mount.proofs.MountLemmas.{counted_empty, counted_used, scan_cause}
 use Rattle.zj_mount.proofs.mounting.read_empty.Goals as goal

@@ -1,5 +1,0 @@
-use Rattle.zj_cli.proofs.ScanLemmas.{ReadTo}
-use Rattle.zj_cli.proofs.scan.scan_all.Given as goal
-
-abbrev pub invariant-loop-core : goal.invariant-loop-core
-invariant-loop-core g l = ReadTo g.D.Disk.view l.initial.areas l.areas l.counts.items l.core

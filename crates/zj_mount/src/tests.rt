@@ -1,0 +1,227 @@
+//! Images over memory: opened, refused and mounted.
+
+use super::*;
+use std::alloc::{AllocError, Global};
+use std::process::Abort;
+use std::test::Fail;
+use zj_block::{Blocks, Sizes};
+use zj_dev::{Device, MemDisk, MemShelf, Shelf, Torn};
+use zj_home::Home;
+use zj_layout::format;
+
+/// The bytes of a device, and which of its calls fail.
+type Given<'a> = (&'a str, &'a [u8], &'a [u64]);
+
+/// The sizes of an image of 64 blocks, 8 nodes and two cores.
+fn sizes(rt: &impl Abort) -> Sizes {
+    Sizes::new(1, 64, 8, 2, 50768).expect(rt, "within the limits")
+}
+
+/// The bytes of a new home with these blocks.
+fn home_bytes(rt: &impl Abort, alloc: Global, blocks: &Blocks) -> Result<Vec<u8>, AllocError> {
+    let sizes = sizes(rt);
+    let bytes = vec![in alloc; 0u8; 40960]?;
+    let disk = MemDisk::new(alloc, &bytes, &[], None)?;
+    assert_eq!(rt; zj_dev::Disk::len(&disk), zj_home::home_len(&sizes));
+    assert_eq!(rt; blocks.len(), 64);
+    assert_eq!(rt; sizes.blocks(), 64);
+    match Home::make(alloc, disk, &sizes, blocks) {
+        Ok(home) => home.into_device().image(alloc, Torn::Lost),
+        Err(_) => Err(AllocError),
+    }
+}
+
+/// A journal that begins with these bytes, and zeros behind them.
+fn journal_bytes(alloc: Global, front: &[u8]) -> Result<Vec<u8>, AllocError> {
+    let mut bytes = Vec::from_slice(alloc, front)?;
+    bytes.resize(50768, 0)?;
+    Ok(bytes)
+}
+
+/// A record of no block, of transaction 0 of a core of two, which follows nothing.
+const RECORD: [u8; 40] = [
+    1, 0, 0, 0, 0, 0, 0, 0, 0, 0, 0, 0, 0, 0, 0, 0, 0, 0, 0, 0, 2, 0, 0, 0, 0, 0, 0, 0, 0, 0, 0, 0,
+    0, 0, 0, 0, 0, 0, 0, 0,
+];
+
+/// A shelf with these devices.
+fn shelf_of(alloc: Global, devices: &[Given]) -> Result<MemShelf, AllocError> {
+    let mut shelf = MemShelf::new(alloc)?;
+    for (name, bytes, failing) in devices {
+        let _ = shelf.put(name, MemDisk::new(alloc, bytes, failing, None)?)?;
+    }
+    Ok(shelf)
+}
+
+/// Why these devices are not opened, all of which are closed again.
+fn refusal(
+    rt: &impl Abort,
+    alloc: Global,
+    devices: &[Given],
+) -> Result<Option<OpenFault>, AllocError> {
+    let mut shelf = shelf_of(alloc, devices)?;
+    let fault = match open_all(alloc, &mut shelf) {
+        Ok(set) => {
+            assert!(rt; close_all(&mut shelf, set).is_ok());
+            None
+        }
+        Err(fault) => Some(fault),
+    };
+    for (name, _, _) in devices {
+        assert!(rt; shelf.take(name).is_some(), "closed again");
+    }
+    Ok(fault)
+}
+
+#[test]
+fn opens_what_is_an_image(rt: HostRuntime) -> Result<(), Fail> {
+    let alloc = rt.alloc();
+    let good = home_bytes(&rt, alloc, &format(alloc, &sizes(&rt))?)?;
+    let mut closed = Vec::from_slice(alloc, &good)?;
+    let mut newer = Vec::from_slice(alloc, &good)?;
+    assert!(rt; closed.len() > 16 && newer.len() > 16);
+    closed[0] = 0;
+    newer[16] = 9;
+    let long = journal_bytes(alloc, &[])?;
+    let mut cut = journal_bytes(alloc, &[])?;
+    let _ = cut.pop();
+    let (home, device) = (Device::Home, Device::Journal(1));
+    let found = refusal(
+        &rt,
+        alloc,
+        &[("home", &good, &[]), ("j0", &long, &[]), ("j1", &long, &[])],
+    )?;
+    assert_eq!(rt; found, None);
+    let found = refusal(&rt, alloc, &[("j0", &long, &[]), ("j1", &long, &[])])?;
+    assert_eq!(rt; found, Some(OpenFault::Absent { device: home }));
+    let found = refusal(&rt, alloc, &[("home", &good, &[]), ("j0", &long, &[])])?;
+    assert_eq!(rt; found, Some(OpenFault::Absent { device }));
+    let found = refusal(
+        &rt,
+        alloc,
+        &[("home", &good, &[]), ("j0", &long, &[]), ("j1", &cut, &[])],
+    )?;
+    let shorter = OpenFault::Sizes {
+        device,
+        found: 50767,
+        expected: 50768,
+    };
+    assert_eq!(rt; found, Some(shorter));
+    let found = refusal(&rt, alloc, &[("home", &closed, &[]), ("j1", &cut, &[])])?;
+    assert_eq!(rt; found, Some(OpenFault::NotAnImage { at: 0 }));
+    let found = refusal(&rt, alloc, &[("home", &newer, &[])])?;
+    assert_eq!(rt; found, Some(OpenFault::Version { found: 9 }));
+    let found = refusal(&rt, alloc, &[("home", &good, &[0])])?;
+    assert_eq!(rt; found, Some(OpenFault::DiskFault { device: home }));
+    Ok(())
+}
+
+/// Why these devices are not mounted. Where they are, it is a new image.
+fn mounting(rt: &impl Abort, alloc: Global, devices: &[Given]) -> Result<Option<MountFault>, Fail> {
+    let mut shelf = shelf_of(alloc, devices)?;
+    let mut set = open_all(alloc, &mut shelf).ok().ok_or("opened")?;
+    let fault = match mount(alloc, &mut set.home, &mut set.areas) {
+        Ok(recovered) => {
+            for (core, told) in [(0, Some(0)), (1, Some(0)), (2, None)] {
+                assert_eq!(rt; recovered.from(core), told);
+                assert_eq!(rt; recovered.found(core), told);
+                assert_eq!(rt; recovered.kept(core), told);
+            }
+            assert_eq!(rt; *recovered.sizes(), sizes(rt));
+            assert_eq!(rt; recovered.blocks().len(), 64);
+            assert_eq!(rt; recovered.tree().len(), 1, "the root alone");
+            assert_eq!(rt; recovered.into_blocks().len(), 64);
+            None
+        }
+        Err(fault) => Some(fault),
+    };
+    assert!(rt; close_all(&mut shelf, set).is_ok());
+    Ok(fault)
+}
+
+#[test]
+fn mounts_what_shows_a_tree(rt: HostRuntime) -> Result<(), Fail> {
+    let alloc = rt.alloc();
+    let good = home_bytes(&rt, alloc, &format(alloc, &sizes(&rt))?)?;
+    let zero = home_bytes(&rt, alloc, &Blocks::zero(alloc, 64)?)?;
+    let none = journal_bytes(alloc, &[])?;
+    let some = journal_bytes(alloc, &RECORD)?;
+    let mut number = RECORD;
+    number[8] = 5;
+    let bad = journal_bytes(alloc, &number)?;
+    let device = Device::Journal(1);
+    let damaged = MountFault::Damaged {
+        device,
+        at: 8,
+        found: 5,
+        expected: 0,
+    };
+    let home = Device::Home;
+    let table: [(Given, Given, Given, Option<MountFault>); 6] = [
+        (
+            ("home", &good, &[]),
+            ("j0", &none, &[]),
+            ("j1", &none, &[]),
+            None,
+        ),
+        (
+            ("home", &zero, &[]),
+            ("j0", &none, &[]),
+            ("j1", &none, &[]),
+            Some(MountFault::NoTree { rule: 1, block: 1 }),
+        ),
+        (
+            ("home", &zero, &[]),
+            ("j0", &none, &[]),
+            ("j1", &some, &[]),
+            Some(MountFault::Unbuilt { device }),
+        ),
+        (
+            ("home", &good, &[]),
+            ("j0", &some, &[]),
+            ("j1", &bad, &[]),
+            Some(damaged),
+        ),
+        (
+            ("home", &good, &[]),
+            ("j0", &none, &[]),
+            ("j1", &none, &[0]),
+            Some(MountFault::DiskFault { device }),
+        ),
+        (
+            ("home", &good, &[9]),
+            ("j0", &none, &[]),
+            ("j1", &none, &[]),
+            Some(MountFault::DiskFault { device: home }),
+        ),
+    ];
+    for (home, first, second, fault) in table {
+        assert_eq!(rt; mounting(&rt, alloc, &[home, first, second])?, fault);
+    }
+    Ok(())
+}
+
+#[test]
+fn areas_give_their_last_and_take_it_back(rt: HostRuntime) -> Result<(), Fail> {
+    let alloc = rt.alloc();
+    let home = home_bytes(&rt, alloc, &Blocks::zero(alloc, 64)?)?;
+    let none = journal_bytes(alloc, &[])?;
+    let mut shelf = shelf_of(
+        alloc,
+        &[("home", &home, &[]), ("j0", &none, &[]), ("j1", &none, &[])],
+    )?;
+    let mut set = open_all(alloc, &mut shelf).ok().ok_or("opened")?;
+    let spare = set.areas.spare();
+    let last = set.areas.pop().ok_or("two areas")?;
+    assert_eq!(rt; last.core(), 1);
+    assert_eq!(rt; set.areas.len(), 1);
+    assert!(rt; set.areas.spare() > spare);
+    set.areas.push(last);
+    assert_eq!(rt; set.areas.spare(), spare);
+    for (core, area) in set.areas.slice_mut().iter_mut().enumerate() {
+        assert_eq!(rt; area.core() as usize, core);
+    }
+    assert_eq!(rt; set.areas.len(), 2);
+    assert!(rt; close_all(&mut shelf, set).is_ok());
+    Ok(())
+}
