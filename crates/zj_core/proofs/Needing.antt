@@ -1,0 +1,116 @@
+-- What performing a call over the blocks that were taken says of a pass that holds them.
+use Rattle.std.proofs.Common.{◌≡◌, ◌≢◌, ◌⊎◌, inl, inr, ⊎_elim, ℕ, ◌<◌, ◌==◌, Bool, true, false, true≢false, cond, eqb, eq-eqb, ne_eqb, is_some, List, [], ◌∷◌, ◌++◌, length, map, take, Option, Some, None, IsSome, refl, sym, ap, ◌∙◌, subst, arith}
+use Rattle.std.specs.Option.{option_map}
+use Rattle.std.specs.Prelude.{find}
+use Rattle.std.specs.Ordering.{nat_cmp, eq_by_cmp}
+use Rattle.std.specs.FinMap as finmap
+use mathlib.Core.Logic.{dite}
+use native.Mathlib.Decide.{ℕ_discrete}
+use Rattle.zj_block.specs.Lists.{Entries, content_under}
+use Rattle.zj_block.specs.Sizes.{Numbers}
+use Rattle.zj_block.specs.declared.numbers.BlockNo.{BlockNo}
+use Rattle.zj_tree.specs.declared.call.Call.{Call}
+use Rattle.zj_tree.specs.declared.call.Reply.{Reply}
+use Rattle.zj_tree.specs.Tree.{FileTree}
+use Rattle.zj_layout.specs.Image.{Image, State}
+use Rattle.zj_layout.specs.Shows.{Changes}
+use Rattle.zj_dirs.specs.Possible.{Always, IsPossible}
+use Rattle.zj_inode.specs.declared.outcome.Outcome.{Outcome}
+use Rattle.zj_inode.specs.declared.outcome.Outcome.TheVariants as outcomes
+use Rattle.zj_inode.specs.Footprint.{Foot}
+use Rattle.zj_inode.specs.Performs.{IsRootFirst, NeedsWithin, OutcomeSays, Performs}
+use Rattle.zj_turns.specs.Views.{Hold, Known}
+use Rattle.zj_turns.specs.Passes.{PassState, holds, mine}
+use Rattle.zj_turns.proofs.Maps.{tied, untied}
+use Rattle.zj_core.specs.Core.{NeedsNoMore}
+use Rattle.zj_core.specs.Handle.{HasTaken, IsPartOfSome, NeedsNext, content_held, entries_held, root_block}
+use Rattle.zj_core.proofs.Taking.{not_held}
+
+-- ---- the blocks that are held, as entries
+
+same_test : (a b : ℕ) → eqb a b ≡ eq_by_cmp nat_cmp b a
+same_test a b = dite (ℕ_discrete a b) (λ same. eq-eqb a b same ∙ sym (tied b a (sym same))) (λ apart. ne_eqb a b apart ∙ sym (untied b a (λ same. apart (sym same))))
+
+held_find : (es : List (ℕ × Hold)) (b : ℕ) → content_under (map (λ e. (e.0, take 64 e.1.loaded)) es) b ≡ option_map (λ (h : Hold). take 64 h.loaded) (finmap.find nat_cmp b es)
+held_find [] b = refl
+held_find (e ∷ es) b = ap (λ t. option_map (λ (x : ℕ × List ℕ). x.1) (cond t (Some (e.0, take 64 e.1.loaded)) (find (λ (x : ℕ × List ℕ). x.0 == b) (map (λ (x : ℕ × Hold). (x.0, take 64 x.1.loaded)) es)))) (same_test e.0 b) ∙ by (eq_by_cmp nat_cmp b e.0) (held_find es b)
+  where
+    by : (t : Bool) → content_under (map (λ e. (e.0, take 64 e.1.loaded)) es) b ≡ option_map (λ (h : Hold). take 64 h.loaded) (finmap.find nat_cmp b es)
+        → option_map (λ (x : ℕ × List ℕ). x.1) (cond t (Some (e.0, take 64 e.1.loaded)) (find (λ (x : ℕ × List ℕ). x.0 == b) (map (λ (x : ℕ × Hold). (x.0, take 64 x.1.loaded)) es))) ≡ option_map (λ (h : Hold). take 64 h.loaded) (cond t (Some e.1) (finmap.find nat_cmp b es))
+    by true rest = refl
+    by false rest = rest
+
+pub held_under : (k : Known) (b : ℕ) → content_under (entries_held k) b ≡ content_held k b
+held_under k b = held_find (finmap.entries k.held) b ∙ ap (option_map (λ (h : Hold). take 64 h.loaded)) (sym (finmap.get-entries k.held b))
+
+-- ---- lists that have the same contents
+
+module _ (sizes : Numbers) (found other : Entries) (same : (b : ℕ) → content_under other b ≡ content_under found b) where
+  possible_same : (state : State) (tree : FileTree) → IsPossible sizes other state tree → IsPossible sizes found state tree
+  possible_same state tree p = record { shows = p.shows; agrees = λ b c e. p.agrees b c (same b ∙ e) }
+
+  pub always_same : (P : Image → Type 0) → Always sizes found P → Always sizes other P
+  always_same P always state tree p = always state tree (possible_same state tree p)
+
+  pub performs_same : (written : Changes) (call : Call) (reply : Reply) → Performs sizes found written call reply → Performs sizes other written call reply
+  performs_same written call reply done = record {
+    taken = λ b some. subst IsSome (sym (same b)) (done.taken b some);
+    each = λ state tree p. let one = done.each state tree (possible_same state tree p) in record {
+      replies = one.replies;
+      leaves = one.leaves;
+      changed = λ b content e. ⊎_elim (λ differs. inl (λ is. differs (sym (same b) ∙ is))) (λ rest. inr rest) (one.changed b content e);
+    };
+    quiet = done.quiet;
+  }
+
+-- ---- outcomes
+
+module _ (sizes : Numbers) (p : PassState) (found : Entries) (call : Call) (has : HasTaken sizes p found) where
+  same_held : (b : ℕ) → content_under (entries_held (mine p)) b ≡ content_under found b
+  same_held b = held_under (mine p) b ∙ sym (has.same b)
+
+  -- what isn't held was not taken
+  pub not_taken : (b : ℕ) → holds p b ≡ false → content_under found b ≡ None
+  not_taken b free = has.same b ∙ by (finmap.get (mine p).held b) free
+    where
+      by : (o : Option Hold) → is_some o ≡ false → option_map (λ (h : Hold). take 64 h.loaded) o ≡ None
+      by None e = refl
+      by (Some h) e = absurd (true≢false e)
+
+  pub free_of : (b : ℕ) → content_under found b ≡ None → holds p b ≡ false
+  free_of b none = ap is_some (not_held sizes p found has b none)
+
+  pub need_fresh : (o : Outcome) (block : BlockNo) → o ≡ outcomes.Need block → OutcomeSays sizes found call o → content_under found block.0 ≡ None
+  need_fresh o block is says = (subst (OutcomeSays sizes found call) is says).0
+
+  pub need_root : (o : Outcome) (block : BlockNo) → o ≡ outcomes.Need block → IsRootFirst sizes found o → content_under found (root_block sizes) ≡ None → block.0 ≡ root_block sizes
+  need_root o block is first none = subst (IsRootFirst sizes found) is first none
+
+  pub need_within : (o : Outcome) (block : BlockNo) → o ≡ outcomes.Need block → NeedsWithin sizes o → block.0 < sizes.blocks
+  need_within o block is within = subst (NeedsWithin sizes) is within block.0 refl
+
+  pub needs_next : (o : Outcome) (block : BlockNo) → o ≡ outcomes.Need block → OutcomeSays sizes found call o → IsRootFirst sizes found o → NeedsNext sizes p call block.0
+  needs_next o block is says first = record {
+    free = free_of block.0 (need_fresh o block is says);
+    foot = always_same sizes found (entries_held (mine p)) same_held (λ image. Foot sizes image call block.0) (subst (OutcomeSays sizes found call) is says).1;
+    first = λ none. need_root o block is first (not_taken (root_block sizes) none);
+  }
+
+  pub needs_no_more : (o : Outcome) (reply : Reply) (written : Changes) → o ≡ outcomes.Done reply written → OutcomeSays sizes found call o → NeedsNoMore sizes p call
+  needs_no_more o reply written is says = record {
+    reply = reply;
+    written = written;
+    performs = performs_same sizes found (entries_held (mine p)) same_held written call reply (subst (OutcomeSays sizes found call) is says);
+  }
+
+  pub done_root : (o : Outcome) (reply : Reply) (written : Changes) → o ≡ outcomes.Done reply written → IsRootFirst sizes found o → content_under found (root_block sizes) ≢ None
+  done_root o reply written is first none = subst (IsRootFirst sizes found) is first none
+
+  pub never_odd : (o : Outcome) → o ≡ outcomes.Odd → OutcomeSays sizes found call o → IsRootFirst sizes found o → ⊥
+  never_odd o is says first = ⊎_elim
+      (λ none. subst (IsRootFirst sizes found) is first (ap (λ f. content_under f (root_block sizes)) none))
+      (λ begun. part begun.1)
+      has.begun
+    where
+      part : IsPartOfSome sizes found → ⊥
+      part some = subst (OutcomeSays sizes found call) is says some.state some.tree some.possible
