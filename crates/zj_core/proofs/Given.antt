@@ -1,19 +1,17 @@
 -- Giving back: each block that is given is held no more, and while any is held, what was drawn for stays so.
-use Rattle.std.proofs.Common.{◌≡◌, ◌≢◌, ◌⊎◌, inl, inr, ℕ, zero, suc, ◌-◌, ◌<◌, Bool, true, false, cond, not, eqb, ◌==◌, ne_eqb, eqb-true, eq-eqb, is_some, true≢false, List, [], ◌∷◌, length, get_or, drop, refl, sym, ap, ◌∙◌, subst, arith, Some, None, Option}
+use Rattle.std.proofs.Common.{◌≡◌, ◌≢◌, ◌⊎◌, inl, inr, ℕ, zero, suc, ◌-◌, ◌<◌, Bool, true, false, cond, not, eqb, ◌==◌, ne_eqb, eq-eqb, is_some, true≢false, List, [], ◌∷◌, length, get_or, drop, refl, sym, ap, ◌∙◌, subst, arith, Some, None, Option}
 use Rattle.std.specs.Prelude.{slice_get, find}
 use Rattle.std.specs.Option.{option_map, unwrap_or}
 use Rattle.std.specs.Ordering.{nat_cmp}
 use Rattle.std.specs.FinMap as finmap
-use Rattle.std.proofs.Math.Seq.{drop-cons}
-use Rattle.std.proofs.lemmas.Option.{get_or_from_slice_get, slice_get_within}
 use mathlib.Core.Logic.{dite}
 use native.Mathlib.Decide.{ℕ_discrete}
-use Rattle.zj_block.specs.Lists.{AreApart, Entries, IsTaken, content_under}
-use Rattle.zj_turns.specs.Views.{Has, Hold, Known, giving, hold_in, taken}
-use Rattle.zj_turns.specs.Passes.{CacheParameters, IsActive, PassState, hold_of, holds, mine, now_knowing}
+use Rattle.zj_block.specs.Lists.{AreApart, Entries, content_under}
+use Rattle.zj_turns.specs.Views.{Hold, Known, giving, hold_in, taken}
+use Rattle.zj_turns.specs.Passes.{PassState, mine, now_knowing}
 use Rattle.zj_turns.proofs.Maps.{get_gone, get_left, some_there}
 use Rattle.zj_core.specs.Steps.{given_back}
-use Rattle.zj_core.proofs.Knowing.{mine_is, next_step}
+use Rattle.zj_core.proofs.Knowing.{next_step}
 use Rattle.zj_core.proofs.Stored.{drop_one}
 
 -- what is held of a block that was given or not

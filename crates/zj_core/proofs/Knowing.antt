@@ -1,12 +1,9 @@
 -- Passes that change what they know of their own core, and maps by what they have.
-use Rattle.std.proofs.Common.{◌≡◌, ◌≢◌, ℕ, Bool, true, false, cond, is_some, true≢false, refl, sym, ap, ◌∙◌, subst, Some, None, Option}
-use Rattle.std.specs.Option.{unwrap_or}
-use Rattle.std.specs.Ordering.{nat_cmp, eq_by_cmp}
+use Rattle.std.proofs.Common.{◌≡◌, ℕ, refl, sym, ap, ◌∙◌, subst, Some, None, Option}
+use Rattle.std.specs.Ordering.{nat_cmp}
 use Rattle.std.specs.Cmp.{nat_cmp_total}
 use Rattle.std.specs.FinMap as finmap
-use mathlib.Core.Logic.{dite}
-use native.Mathlib.Decide.{ℕ_discrete}
-use Rattle.zj_turns.specs.Views.{Has, Hold, Known, knowing, known_in, hold_in, taken}
+use Rattle.zj_turns.specs.Views.{Has, Known}
 use Rattle.zj_turns.specs.Passes.{CacheParameters, IsActive, PassState, mine, now_knowing, with_view}
 use Rattle.zj_turns.proofs.Again.{known_after, knowing_again as view_again, knowing_same as view_same}
 use Rattle.zj_turns.proofs.Maps.{get_here}

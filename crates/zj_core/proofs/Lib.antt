@@ -1,3 +1,4 @@
+pub mod Finished
+pub mod Given
 pub mod Knowing
 pub mod Stored
-pub mod Given

@@ -1,5 +1,5 @@
 -- What storing leaves: each block that is held, as it was loaded.
-use Rattle.std.proofs.Common.{◌≡◌, ◌≢◌, ℕ, zero, suc, ◌-◌, ◌<◌, Bool, true, false, cond, not, ◌==◌, is_some, true≢false, List, [], ◌∷◌, length, drop, refl, sym, ap, ◌∙◌, subst, arith, Some, None, Option}
+use Rattle.std.proofs.Common.{◌≡◌, ℕ, zero, suc, ◌-◌, ◌<◌, Bool, true, false, cond, is_some, List, [], ◌∷◌, length, drop, refl, sym, ap, ◌∙◌, arith, Some, None, Option}
 use Rattle.std.specs.Prelude.{slice_get}
 use Rattle.std.specs.Option.{unwrap_or}
 use Rattle.std.specs.Ordering.{nat_cmp, eq_by_cmp}
@@ -9,11 +9,11 @@ use Rattle.std.proofs.lemmas.Option.{get_or_from_slice_get, slice_get_within}
 use mathlib.Core.Logic.{dite}
 use native.Mathlib.Decide.{ℕ_discrete}
 use Rattle.zj_block.specs.Lists.{Entries}
-use Rattle.zj_turns.specs.Views.{Has, Hold, Known, holding, hold_in, stored_as, taken}
-use Rattle.zj_turns.specs.Passes.{CacheParameters, IsActive, PassState, hold_of, holds, mine, now_knowing}
+use Rattle.zj_turns.specs.Views.{Hold, Known, holding, hold_in, stored_as, taken}
+use Rattle.zj_turns.specs.Passes.{PassState, hold_of, mine, now_knowing}
 use Rattle.zj_turns.proofs.Maps.{get_here, get_else, tied, untied}
 use Rattle.zj_core.specs.Steps.{stored_into}
-use Rattle.zj_core.proofs.Knowing.{mine_is, next_step}
+use Rattle.zj_core.proofs.Knowing.{next_step}
 
 -- the entries from a place on
 pub drop_one : (entries : Entries) (i b : ℕ) (c : List ℕ) → 0 < i → slice_get entries (i - 1) ≡ Some (b, c) → drop (i - 1) entries ≡ (b, c) ∷ drop i entries

@@ -1,5 +1,5 @@
 -- The contents are stored from the last one on.
-use Rattle.std.proofs.Common.{◌≡◌, ◌-◌, ◌<◌, length, drop, [], sym, ap, ◌∙◌, arith}
+use Rattle.std.proofs.Common.{◌-◌, ◌<◌, length, drop, [], sym, ap, ◌∙◌, arith}
 use Rattle.std.specs.FinMap as finmap
 use Rattle.std.proofs.lemmas.Option.{slice_get-get_or}
 use Rattle.zj_layout.proofs.Follow.{none_some}
