@@ -77,7 +77,7 @@ all_find : {X : Type 0} (P : ℕ × X → Type 0) (es : List (ℕ × X)) → All
 all_find P [] all b x at = absurd (none_some at)
 all_find {X} P (e ∷ es) all b x at = dite (ℕ_discrete b e.0)
     (λ is. let value : e.1 ≡ x = ap (λ (o : Option X). unwrap_or o x) (sym (ap (λ t. cond t (Some e.1) (finmap.find nat_cmp b es)) (tied b e.0 is)) ∙ at) in
-        subst P (λ i. (sym is i, value i)) (All-head P e es all))
+    subst P (λ i. (sym is i, value i)) (All-head P e es all))
     (λ differs. all_find P es (All-tail P e es all) b x (sym (ap (λ t. cond t (Some e.1) (finmap.find nat_cmp b es)) (untied b e.0 differs)) ∙ at))
 
 all_unmap : {X Y : Type 0} (P : Y → Type 0) (f : X → Y) (xs : List X) → All P (map f xs) → All (λ x. P (f x)) xs
@@ -146,11 +146,11 @@ read_stored k es read within b h at = by (finmap.get k.held b) (finmap.find nat_
 pub knows_given : (P : BlockState → Type 0) (cores : ℕ) (start : BlockState) (q r : PassState) (k : Known) → KnowsHistory P cores start q.view → Has q.view q.core → r ≡ now_knowing q k → k.operations ≡ (mine q).operations → k.held ≡ finmap.empty
     → KnowsHistory P cores start r.view
 knows_given P cores start q r k knows has is same empty = subst (λ (x : PassState). KnowsHistory P cores start x.view) (sym is) (record {
-      history = knows.history;
-      legal = knows.legal;
-      operations = λ core j at. by_operations core j (knowing_at q.view q.core k core j at);
-      loaded = λ core block j h at held unwritten long. by_loaded core block j h (knowing_at q.view q.core k core j at) held unwritten long;
-    })
+  history = knows.history;
+  legal = knows.legal;
+  operations = λ core j at. by_operations core j (knowing_at q.view q.core k core j at);
+  loaded = λ core block j h at held unwritten long. by_loaded core block j h (knowing_at q.view q.core k core j at) held unwritten long;
+})
   where
     by_operations : (core : ℕ) (j : Known) → ((core ≡ q.core) × (k ≡ j)) ⊎ ((core ≢ q.core) × (finmap.get q.view.known core ≡ Some j)) → operations_on core knows.history ≡ j.operations
     by_operations core j (inl here) =
