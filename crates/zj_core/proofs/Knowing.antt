@@ -1,5 +1,5 @@
 -- Passes that change what they know of their own core, and maps by what they have.
-use Rattle.std.proofs.Common.{◌≡◌, ℕ, refl, sym, ap, ◌∙◌, subst, Some, None, Option}
+use Rattle.std.proofs.Common.{◌≡◌, ℕ, sym, ap, ◌∙◌, subst, None}
 use Rattle.std.specs.Ordering.{nat_cmp}
 use Rattle.std.specs.Cmp.{nat_cmp_total}
 use Rattle.std.specs.FinMap as finmap
@@ -42,8 +42,3 @@ same_maps m n is = finmap.same_map nat_cmp_total finmap.nat_cmp-IsAntisymmetric 
 -- a map that has nothing
 pub none_there : {X : Type 0} (m : finmap.FinMap nat_cmp X) → ((b : ℕ) → finmap.get m b ≡ None) → m ≡ finmap.empty
 none_there {X} m none = same_maps m finmap.empty (λ b. none b ∙ sym (finmap.get-empty {X = X} nat_cmp b))
-
--- where an option has no value it is none
-pub nothing : {X : Type 0} (o : Option X) → ((x : X) → o ≡ Some x → ⊥) → o ≡ None
-nothing None without = refl
-nothing (Some x) without = absurd (without x refl)
