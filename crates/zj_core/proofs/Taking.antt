@@ -16,24 +16,9 @@ use Rattle.zj_turns.specs.Passes.{CacheParameters, PassState, SomeStateAgrees, h
 use Rattle.zj_turns.proofs.Maps.{get_here, get_else}
 use Rattle.zj_turns.proofs.Seats.{known_of}
 use Rattle.zj_turns.proofs.Again.{insert_again, insert_same, remove_new}
+use Rattle.zj_core.proofs.Knowing.{has_now, knowing_again, knowing_same, mine_now}
 use Rattle.zj_core.specs.Handle.{HasTaken, IsPartOfSome, IsRead, content_held, root_block}
 use Rattle.zj_core.specs.Steps.{HoldsMore, IsFree, Knows, TakesMore}
-
--- what a pass knows of its core after it was told
-pub mine_now : (p : PassState) (k : Known) → mine (now_knowing p k) ≡ k
-mine_now p k = known_of (knowing p.view p.core k) p.core k (get_here p.view.known p.core k)
-
--- it is told twice
-pub now_again : (p : PassState) (k k' : Known) → now_knowing (now_knowing p k) k' ≡ now_knowing p k'
-now_again p k k' = ap (λ m. record { table = p.table; core = p.core; away = p.away; view = record { own = p.view.own; known = m; past = p.view.past } }) (insert_again p.view.known p.core k k')
-
--- it is told what it knows
-pub now_same : (p : PassState) → Has p.view p.core → now_knowing p (mine p) ≡ p
-now_same p has = ap (λ m. record { table = p.table; core = p.core; away = p.away; view = record { own = p.view.own; known = m; past = p.view.past } })
-    (insert_same p.view.known p.core (mine p) (has.1 ∙ ap Some (sym (known_of p.view p.core has.0 has.1))))
-
-pub has_now : (p : PassState) (k : Known) → Has (now_knowing p k).view p.core
-has_now p k = (k, get_here p.view.known p.core k)
 
 pub holding_again : (k : Known) (b : ℕ) (h h' : Hold) → holding (holding k b h) b h' ≡ holding k b h'
 holding_again k b h h' = ap (λ m. record { operations = k.operations; held = m; drawn = k.drawn; ticket = k.ticket; number = k.number }) (insert_again k.held b h h')
@@ -59,7 +44,7 @@ two_steps p q r b words first second =
     let k : Known = holding (mine p) b just_taken in
     second ∙ ap (λ (x : PassState). now_knowing x (holding (mine x) b (loaded_as words))) first
     ∙ ap (λ (x : Known). now_knowing (now_knowing p k) (holding x b (loaded_as words))) (mine_now p k)
-    ∙ now_again p k (holding k b (loaded_as words))
+    ∙ knowing_again p k (holding k b (loaded_as words))
     ∙ ap (now_knowing p) (holding_again (mine p) b just_taken (loaded_as words))
 
 -- just taken
@@ -100,7 +85,7 @@ module _ (sizes : Numbers) (p r : PassState) (found found' : Entries) (b : ℕ) 
   -- given back at once all is as it was
   pub undone : (s : PassState) → s ≡ now_knowing r (giving (mine r) b) → s ≡ p
   undone s e =
-      e ∙ ap (now_knowing r) given ∙ ap (λ (x : PassState). now_knowing x (mine p)) is ∙ now_again p (holding (mine p) b (loaded_as words)) (mine p) ∙ now_same p has.known
+      e ∙ ap (now_knowing r) given ∙ ap (λ (x : PassState). now_knowing x (mine p)) is ∙ knowing_again p (holding (mine p) b (loaded_as words)) (mine p) ∙ knowing_same p has.known
     where
       gone : finmap.remove (finmap.insert (mine p).held b (loaded_as words)) b ≡ (mine p).held
       gone = remove_new (mine p).held b (loaded_as words) (not_held sizes p found has b fresh)
@@ -170,7 +155,7 @@ module _ (sizes : Numbers) (p r : PassState) (found found' : Entries) (b : ℕ) 
 
     pub has_more : (content_under found (root_block sizes) ≡ None → b ≡ root_block sizes) → SomeStateAgrees (ShowsSome sizes) (mine r) → HasTaken sizes r found'
     has_more first some = record {
-      known = subst (λ (x : PassState). Has x.view x.core) (sym is) (has_now p (holding (mine p) b (loaded_as words)));
+      known = has_now p r (holding (mine p) b (loaded_as words)) is;
       clear = ap (λ (k : Known). k.drawn) mine_is ∙ has.clear;
       read = read_now;
       same = same_now;

@@ -16,6 +16,7 @@ use crate::fault::TakeFault;
 use crate::shows::ShowsTree;
 use std::alloc::Global;
 use zj_block::{Block, BlockNo, Sizes, Taken, Written};
+use zj_inode::laws::puts_are_one;
 use zj_inode::{Outcome, perform};
 use zj_tree::{Call, Reply};
 use zj_turns::{Cache, Pass};
@@ -166,6 +167,8 @@ pub(crate) fn finish(
     requires keeps { KeepsTree cache.now.sizes taken.now written.now }
     ensures { Draws cache.now pass.old pass.new written.now number result }
 {
+    puts_are_one();
+    let _contents = written.len();
     store_all(cache, pass, written);
     let ticket = cache.draw(pass, number);
     give_all(cache, pass, taken);
