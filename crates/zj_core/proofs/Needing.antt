@@ -20,10 +20,13 @@ use Rattle.zj_inode.specs.declared.outcome.Outcome.TheVariants as outcomes
 use Rattle.zj_inode.specs.Footprint.{Foot}
 use Rattle.zj_inode.specs.Performs.{IsRootFirst, NeedsWithin, OutcomeSays, Performs}
 use Rattle.zj_turns.specs.Views.{Hold, Known}
-use Rattle.zj_turns.specs.Passes.{PassState, holds, mine}
-use Rattle.zj_turns.proofs.Maps.{tied, untied}
+use Rattle.zj_turns.specs.Passes.{CacheParameters, PassState, holds, mine, now_knowing}
+use Rattle.zj_turns.proofs.Maps.{get_else, tied, untied}
+use Rattle.zj_turns.proofs.Seats.{known_of}
 use Rattle.zj_core.specs.Core.{NeedsNoMore}
 use Rattle.zj_core.specs.Handle.{HasTaken, IsPartOfSome, NeedsNext, content_held, entries_held, root_block}
+use Rattle.zj_core.specs.Steps.{IsFree, Knows, TakesMore}
+use Rattle.zj_core.proofs.Knowing.{knowing_again, knowing_same}
 use Rattle.zj_core.proofs.Taking.{not_held}
 
 -- ---- the blocks that are held, as entries
@@ -114,3 +117,38 @@ module _ (sizes : Numbers) (p : PassState) (found : Entries) (call : Call) (has 
     where
       part : IsPartOfSome sizes found → ⊥
       part some = subst (OutcomeSays sizes found call) is says some.state some.tree some.possible
+
+-- ---- more and more is taken
+
+pub takes_none : (cache : CacheParameters) (sizes : Numbers) (p : PassState) (found : Entries) → HasTaken sizes p found → TakesMore cache p p
+takes_none cache sizes p found has = record {
+  more = record { operations = refl; drawn = refl; ticket = refl; number = refl; kept = λ b h e. e };
+  only = sym (knowing_same p has.known);
+  free = λ b here before. absurd (true≢false (sym here ∙ before));
+  knows = inl refl;
+}
+
+module _ (cache : CacheParameters) (p q r : PassState) (first : TakesMore cache p q) (then : TakesMore cache q r) where
+  others : (b c : ℕ) (k : Known) → IsFree q b → finmap.get p.view.known c ≡ Some k → c ≢ p.core → finmap.contains_key k.held b ≡ false
+  others b c k free e apart = free c k (ap (λ (x : PassState). finmap.get x.view.known c) first.only ∙ get_else p.view.known p.core c (mine q) apart ∙ e)
+
+  own : (b c : ℕ) (k : Known) → holds p b ≡ false → finmap.get p.view.known c ≡ Some k → c ≡ p.core → finmap.contains_key k.held b ≡ false
+  own b c k before e same = subst (λ (x : Known). finmap.contains_key x.held b ≡ false) (known_of p.view p.core k (ap (finmap.get p.view.known) (sym same) ∙ e)) before
+
+  free_before : (b : ℕ) → holds r b ≡ true → holds p b ≡ false → (t : Bool) → holds q b ≡ t → IsFree p b
+  free_before b here before true there = first.free b there before
+  free_before b here before false no = λ c k e. dite (ℕ_discrete c p.core) (own b c k before e) (others b c k (then.free b here no) e)
+
+  pub takes_then : TakesMore cache p r
+  takes_then = record {
+    more = record {
+      operations = then.more.operations ∙ first.more.operations;
+      drawn = then.more.drawn ∙ first.more.drawn;
+      ticket = then.more.ticket ∙ first.more.ticket;
+      number = then.more.number ∙ first.more.number;
+      kept = λ b h e. then.more.kept b h (first.more.kept b h e);
+    };
+    only = then.only ∙ ap (λ (x : PassState). now_knowing x (mine r)) first.only ∙ knowing_again p (mine q) (mine r);
+    free = λ b here before. free_before b here before (holds q b) refl;
+    knows = ⊎_elim (λ same. ⊎_elim (λ as_first. inl (same ∙ as_first)) (λ knows. inr (subst (Knows cache) (sym same) knows)) first.knows) (λ knows. inr knows) then.knows;
+  }

@@ -82,10 +82,10 @@ pub(crate) fn take_next(
     ensures taken { OnErr result (taken.new ≡ taken.old) }
 {
     match perform(alloc, sizes, call, taken)? {
-        Outcome::Need(block) => {
-            take_block(cache, pass, taken, block)?;
-            Ok(Some(block))
-        }
+        Outcome::Need(block) => match take_block(cache, pass, taken, block) {
+            Ok(()) => Ok(Some(block)),
+            Err(fault) => Err(fault),
+        },
         Outcome::Done { .. } => Ok(None),
         Outcome::Odd => unreachable!(),
     }
