@@ -23,9 +23,11 @@ use Rattle.zj_turns.specs.Views.{Hold, Known}
 use Rattle.zj_turns.specs.Passes.{CacheParameters, PassState, holds, mine, now_knowing}
 use Rattle.zj_turns.proofs.Maps.{get_else, tied, untied}
 use Rattle.zj_turns.proofs.Seats.{known_of}
-use Rattle.zj_core.specs.Core.{NeedsNoMore}
-use Rattle.zj_core.specs.Handle.{HasTaken, IsPartOfSome, NeedsNext, content_held, entries_held, root_block}
-use Rattle.zj_core.specs.Steps.{IsFree, Knows, TakesMore}
+use Rattle.zj_core.specs.declared.fault.TakeFault.{TakeFault}
+use Rattle.zj_core.specs.declared.fault.TakeFault.TheVariants as faults
+use Rattle.zj_core.specs.Core.{IsTakeCause, NeedsNoMore}
+use Rattle.zj_core.specs.Handle.{HasTaken, IsBegun, IsDue, IsPartOfSome, IsPerformed, NeedsNext, content_held, entries_held, root_block}
+use Rattle.zj_core.specs.Steps.{IsFree, IsMissed, Knows, TakesMore}
 use Rattle.zj_core.proofs.Knowing.{knowing_again, knowing_same}
 use Rattle.zj_core.proofs.Taking.{not_held}
 
@@ -83,37 +85,48 @@ module _ (sizes : Numbers) (p : PassState) (found : Entries) (call : Call) (has 
   pub free_of : (b : ℕ) → content_under found b ≡ None → holds p b ≡ false
   free_of b none = ap is_some (not_held sizes p found has b none)
 
-  pub need_fresh : (o : Outcome) (block : BlockNo) → o ≡ outcomes.Need block → OutcomeSays sizes found call o → content_under found block.0 ≡ None
-  need_fresh o block is says = (subst (OutcomeSays sizes found call) is says).0
-
-  pub need_root : (o : Outcome) (block : BlockNo) → o ≡ outcomes.Need block → IsRootFirst sizes found o → content_under found (root_block sizes) ≡ None → block.0 ≡ root_block sizes
-  need_root o block is first none = subst (IsRootFirst sizes found) is first none
-
-  pub need_within : (o : Outcome) (block : BlockNo) → o ≡ outcomes.Need block → NeedsWithin sizes o → block.0 < sizes.blocks
-  need_within o block is within = subst (NeedsWithin sizes) is within block.0 refl
-
-  pub needs_next : (o : Outcome) (block : BlockNo) → o ≡ outcomes.Need block → OutcomeSays sizes found call o → IsRootFirst sizes found o → NeedsNext sizes p call block.0
-  needs_next o block is says first = record {
-    free = free_of block.0 (need_fresh o block is says);
-    foot = always_same sizes found (entries_held (mine p)) same_held (λ image. Foot sizes image call block.0) (subst (OutcomeSays sizes found call) is says).1;
-    first = λ none. need_root o block is first (not_taken (root_block sizes) none);
+  pub needs_next : (block : ℕ) → IsDue sizes found call block → NeedsNext sizes p call block
+  needs_next block due = record {
+    free = free_of block due.fresh;
+    foot = always_same sizes found (entries_held (mine p)) same_held (λ image. Foot sizes image call block) due.foot;
+    first = λ none. due.first (not_taken (root_block sizes) none);
   }
 
-  pub needs_no_more : (o : Outcome) (reply : Reply) (written : Changes) → o ≡ outcomes.Done reply written → OutcomeSays sizes found call o → NeedsNoMore sizes p call
-  needs_no_more o reply written is says = record {
-    reply = reply;
-    written = written;
-    performs = performs_same sizes found (entries_held (mine p)) same_held written call reply (subst (OutcomeSays sizes found call) is says);
+  pub needs_no_more : IsPerformed sizes found call → NeedsNoMore sizes p call
+  needs_no_more done = record {
+    reply = done.reply;
+    written = done.written;
+    performs = performs_same sizes found (entries_held (mine p)) same_held done.written call done.reply done.performs;
   }
+
+-- a block that is due and wasn't taken
+pub missed_next : (cache : CacheParameters) (sizes : Numbers) (p : PassState) (found : Entries) (call : Call) → HasTaken sizes p found → (block : ℕ) → IsDue sizes found call block → (fault : TakeFault) → IsMissed cache p block fault → IsTakeCause cache sizes p call fault
+missed_next cache sizes p found call has block due (faults.Busy number holder) missed = (
+  needs_next sizes p found call has number (subst (IsDue sizes found call) (sym missed.0) due),
+  (refl, missed.1, missed.2, subst (λ b. (k : Known) → finmap.get p.view.known holder ≡ Some k → finmap.contains_key k.held b ≡ true) (sym missed.0) missed.3),
+)
+missed_next cache sizes p found call has block due faults.NoMemory missed = tt
+
+module _ (sizes : Numbers) (found : Entries) (call : Call) where
+  pub is_due : (o : Outcome) (block : BlockNo) → o ≡ outcomes.Need block → OutcomeSays sizes found call o → IsRootFirst sizes found o → NeedsWithin sizes o → IsDue sizes found call block.0
+  is_due o block is says first within = record {
+    fresh = (subst (OutcomeSays sizes found call) is says).0;
+    foot = (subst (OutcomeSays sizes found call) is says).1;
+    first = subst (IsRootFirst sizes found) is first;
+    within = subst (NeedsWithin sizes) is within block.0 refl;
+  }
+
+  pub is_performed : (o : Outcome) (reply : Reply) (written : Changes) → o ≡ outcomes.Done reply written → OutcomeSays sizes found call o → Performs sizes found written call reply
+  is_performed o reply written is says = subst (OutcomeSays sizes found call) is says
 
   pub done_root : (o : Outcome) (reply : Reply) (written : Changes) → o ≡ outcomes.Done reply written → IsRootFirst sizes found o → content_under found (root_block sizes) ≢ None
   done_root o reply written is first none = subst (IsRootFirst sizes found) is first none
 
-  pub never_odd : (o : Outcome) → o ≡ outcomes.Odd → OutcomeSays sizes found call o → IsRootFirst sizes found o → ⊥
-  never_odd o is says first = ⊎_elim
+  pub never_odd : IsBegun sizes found → (o : Outcome) → o ≡ outcomes.Odd → OutcomeSays sizes found call o → IsRootFirst sizes found o → ⊥
+  never_odd begun o is says first = ⊎_elim
       (λ none. subst (IsRootFirst sizes found) is first (ap (λ f. content_under f (root_block sizes)) none))
-      (λ begun. part begun.1)
-      has.begun
+      (λ (some : IsSome (content_under found (root_block sizes)) × IsPartOfSome sizes found). part some.1)
+      begun
     where
       part : IsPartOfSome sizes found → ⊥
       part some = subst (OutcomeSays sizes found call) is says some.state some.tree some.possible
@@ -137,7 +150,7 @@ module _ (cache : CacheParameters) (p q r : PassState) (first : TakesMore cache 
 
   free_before : (b : ℕ) → holds r b ≡ true → holds p b ≡ false → (t : Bool) → holds q b ≡ t → IsFree p b
   free_before b here before true there = first.free b there before
-  free_before b here before false no = λ c k e. dite (ℕ_discrete c p.core) (own b c k before e) (others b c k (then.free b here no) e)
+  free_before b here before false gone = λ c k e. dite (ℕ_discrete c p.core) (own b c k before e) (others b c k (then.free b here gone) e)
 
   pub takes_then : TakesMore cache p r
   takes_then = record {

@@ -12,7 +12,7 @@ use Rattle.zj_inode.specs.Performs.{Performs}
 use Rattle.zj_inode.specs.Run.{contents_found}
 use Rattle.zj_turns.specs.Views.{Known, Hold}
 use Rattle.zj_turns.specs.Passes.{CacheParameters, IsActive, PassState, holds, left_of, mine, now_knowing}
-use Rattle.zj_core.specs.Handle.{HasTaken, IsRead, NeedsNext, entries_held, root_block}
+use Rattle.zj_core.specs.Handle.{HasTaken, IsPerformed, IsRead, NeedsNext, entries_held, root_block}
 use Rattle.zj_core.specs.Steps.{IsFree, IsMissed, Knows, TakesMore, with_operation}
 use Rattle.zj_core.specs.declared.fault.BeginFault.{BeginFault}
 use Rattle.zj_core.specs.declared.fault.BeginFault.TheVariants as begins
@@ -83,10 +83,8 @@ pub record TakesNext (cache : CacheParameters) (sizes : Numbers) (old new : Pass
   pub knows : Knows cache new
 
 -- A call needs no more blocks: some reply and new contents perform it on those that are held.
-pub record NeedsNoMore (sizes : Numbers) (p : PassState) (call : Call) : Type 0 where
-  pub reply : Reply
-  pub written : finmap.FinMap nat_cmp (List ℕ)
-  pub performs : Performs sizes (entries_held (mine p)) written call reply
+abbrev pub NeedsNoMore : Numbers → PassState → Call → Type 0
+NeedsNoMore sizes p call = IsPerformed sizes (entries_held (mine p)) call
 
 -- why a block that a call needs next wasn't taken
 abbrev pub IsTakeCause : CacheParameters → Numbers → PassState → Call → TakeFault → Type 0

@@ -5,10 +5,13 @@ use Rattle.std.specs.Option.{option_map}
 use Rattle.zj_block.specs.Lists.{Entries, content_under}
 use Rattle.zj_block.specs.Sizes.{Numbers}
 use Rattle.zj_tree.specs.declared.call.Call.{Call}
+use Rattle.zj_tree.specs.declared.call.Reply.{Reply}
 use Rattle.zj_tree.specs.Tree.{FileTree}
 use Rattle.zj_layout.specs.Image.{State, node_block}
+use Rattle.zj_layout.specs.Shows.{Changes}
 use Rattle.zj_dirs.specs.Possible.{Always, IsPossible}
 use Rattle.zj_inode.specs.Footprint.{Foot}
+use Rattle.zj_inode.specs.Performs.{Performs}
 use Rattle.zj_turns.specs.Views.{Has, Hold, Known}
 use Rattle.zj_turns.specs.Passes.{PassState, holds, mine}
 
@@ -35,14 +38,31 @@ pub record IsPartOfSome (sizes : Numbers) (found : Entries) : Type 0 where
   pub tree : FileTree
   pub possible : IsPossible sizes found state tree
 
--- What a core holds are the blocks that were taken, as they were loaded. It has drawn for none of them. Where there are any,
--- the root's is among them, and some state that shows a tree has them.
+-- Nothing was taken yet; or the root's block was, and some state that shows a tree has what was taken.
+abbrev pub IsBegun : Numbers → Entries → Type 0
+IsBegun sizes found = (found ≡ []) ⊎ (IsSome (content_under found (root_block sizes)) × IsPartOfSome sizes found)
+
+-- What a core holds are the blocks that were taken, as they were loaded. It has drawn for none of them.
 pub record HasTaken (sizes : Numbers) (p : PassState) (found : Entries) : Type 0 where
   pub known : Has p.view p.core
   pub clear : (mine p).drawn ≡ false
   pub read : (b : ℕ) (h : Hold) → finmap.get (mine p).held b ≡ Some h → IsRead h
   pub same : (b : ℕ) → content_under found b ≡ content_held (mine p) b
-  pub begun : (found ≡ []) ⊎ (IsSome (content_under found (root_block sizes)) × IsPartOfSome sizes found)
+  pub begun : IsBegun sizes found
+
+-- A call over blocks that were taken needs another one, which it may take in every state that shows a tree and has them. The first
+-- is that of the root's node.
+pub record IsDue (sizes : Numbers) (found : Entries) (call : Call) (block : ℕ) : Type 0 where
+  pub fresh : content_under found block ≡ None
+  pub foot : Always sizes found (λ image. Foot sizes image call block)
+  pub first : content_under found (root_block sizes) ≡ None → block ≡ root_block sizes
+  pub within : block < sizes.blocks
+
+-- some reply and new contents perform a call over blocks that were taken
+pub record IsPerformed (sizes : Numbers) (found : Entries) (call : Call) : Type 0 where
+  pub reply : Reply
+  pub written : Changes
+  pub performs : Performs sizes found written call reply
 
 -- A call needs a block next: it isn't held, and the call may take it in every state that shows a tree and has the blocks that
 -- are held. The first is that of the root's node.

@@ -9,12 +9,12 @@ ghost use Rattle.zj_history.specs.Operation.{Operation};
 ghost use Rattle.zj_turns.specs.Views.{Has, Hold};
 ghost use Rattle.zj_turns.specs.Passes.{IsActive, holds, left_of, mine, now_knowing};
 ghost use Rattle.zj_core.specs.Core.{IsTakeCause, NeedsNoMore, TakesNext};
-ghost use Rattle.zj_core.specs.Handle.{HasTaken, root_block};
+ghost use Rattle.zj_core.specs.Handle.{HasTaken, IsBegun, IsDue, IsPerformed, root_block};
 ghost use Rattle.zj_core.specs.Steps.{Draws, IsMissed, KeepsTree, Knows, TakesMore, given_back, stored_into};
 
 use crate::fault::TakeFault;
 use crate::shows::ShowsTree;
-use std::alloc::Global;
+use std::alloc::{AllocError, Global};
 use zj_block::{Block, BlockNo, Sizes, Taken, Written};
 use zj_inode::laws::puts_are_one;
 use zj_inode::{Outcome, perform};
@@ -60,6 +60,24 @@ pub(crate) fn take_block(
     }
 }
 
+/// The block that a call needs besides those that were taken, if it needs one.
+fn needed(
+    alloc: Global,
+    sizes: &Sizes,
+    call: &Call,
+    taken: &Taken,
+) -> Result<Option<BlockNo>, AllocError>
+    requires { IsBegun sizes.now taken.now }
+    ensures some { IfOk result (λ next. IfSome next (λ block. IsDue sizes.now taken.now call.now block.0)) }
+    ensures none { IfOk result (λ next. IfNone next (IsPerformed sizes.now taken.now call.now)) }
+{
+    match perform(alloc, sizes, call, taken)? {
+        Outcome::Need(block) => Ok(Some(block)),
+        Outcome::Done { .. } => Ok(None),
+        Outcome::Odd => unreachable!(),
+    }
+}
+
 /// Takes the next block that a call needs, if it needs one. After an error all is as before.
 pub(crate) fn take_next(
     alloc: Global,
@@ -81,14 +99,11 @@ pub(crate) fn take_next(
     ensures pass { OnErr result (pass.new ≡ pass.old) }
     ensures taken { OnErr result (taken.new ≡ taken.old) }
 {
-    match perform(alloc, sizes, call, taken)? {
-        Outcome::Need(block) => match take_block(cache, pass, taken, block) {
-            Ok(()) => Ok(Some(block)),
-            Err(fault) => Err(fault),
-        },
-        Outcome::Done { .. } => Ok(None),
-        Outcome::Odd => unreachable!(),
-    }
+    let Some(block) = needed(alloc, sizes, call, taken)? else {
+        return Ok(None);
+    };
+    take_block(cache, pass, taken, block)?;
+    Ok(Some(block))
 }
 
 /// Takes all blocks that a call needs besides, and performs it. After an error the pass has what was taken by then.
