@@ -26,8 +26,8 @@ use Rattle.zj_turns.proofs.Seats.{known_of}
 use Rattle.zj_core.specs.declared.fault.TakeFault.{TakeFault}
 use Rattle.zj_core.specs.declared.fault.TakeFault.TheVariants as faults
 use Rattle.zj_core.specs.Core.{IsTakeCause, NeedsNoMore}
-use Rattle.zj_core.specs.Handle.{HasTaken, IsBegun, IsDue, IsPartOfSome, IsPerformed, NeedsNext, content_held, entries_held, root_block}
-use Rattle.zj_core.specs.Steps.{IsFree, IsMissed, Knows, TakesMore}
+use Rattle.zj_core.specs.Handle.{HasTaken, IsBegun, IsDue, IsPartOfSome, IsPerformed, NeedsNext, TakesFor, content_held, entries_held, root_block}
+use Rattle.zj_core.specs.Steps.{HoldsMore, IsFree, IsMissed, Knows, TakesMore}
 use Rattle.zj_core.proofs.Knowing.{knowing_again, knowing_same}
 use Rattle.zj_core.proofs.Taking.{not_held}
 
@@ -88,12 +88,14 @@ module _ (sizes : Numbers) (p : PassState) (found : Entries) (call : Call) (has 
   pub needs_next : (block : ℕ) → IsDue sizes found call block → NeedsNext sizes p call block
   needs_next block due = record {
     free = free_of block due.fresh;
+    within = due.within;
     foot = always_same sizes found (entries_held (mine p)) same_held (λ image. Foot sizes image call block) due.foot;
     first = λ none. due.first (not_taken (root_block sizes) none);
   }
 
   pub needs_no_more : IsPerformed sizes found call → NeedsNoMore sizes p call
   needs_no_more done = record {
+    root = subst IsSome (sym (same_held (root_block sizes))) done.root;
     reply = done.reply;
     written = done.written;
     performs = performs_same sizes found (entries_held (mine p)) same_held done.written call done.reply done.performs;
@@ -122,6 +124,13 @@ module _ (sizes : Numbers) (found : Entries) (call : Call) where
   pub done_root : (o : Outcome) (reply : Reply) (written : Changes) → o ≡ outcomes.Done reply written → IsRootFirst sizes found o → content_under found (root_block sizes) ≢ None
   done_root o reply written is first none = subst (IsRootFirst sizes found) is first none
 
+  pub root_taken : (o : Outcome) (reply : Reply) (written : Changes) → o ≡ outcomes.Done reply written → IsRootFirst sizes found o → IsSome (content_under found (root_block sizes))
+  root_taken o reply written is first = by (content_under found (root_block sizes)) refl
+    where
+      by : (x : Option (List ℕ)) → content_under found (root_block sizes) ≡ x → IsSome x
+      by None e = absurd (done_root o reply written is first e)
+      by (Some c) e = refl
+
   pub never_odd : IsBegun sizes found → (o : Outcome) → o ≡ outcomes.Odd → OutcomeSays sizes found call o → IsRootFirst sizes found o → ⊥
   never_odd begun o is says first = ⊎_elim
       (λ none. subst (IsRootFirst sizes found) is first (ap (λ f. content_under f (root_block sizes)) none))
@@ -132,6 +141,22 @@ module _ (sizes : Numbers) (found : Entries) (call : Call) where
       part some = subst (OutcomeSays sizes found call) is says some.state some.tree some.possible
 
 -- ---- more and more is taken
+
+-- what is always so of states that have some blocks is so of those that have more
+pub always_more : (sizes : Numbers) (p q : PassState) (found : Entries) → ((b : ℕ) → content_under found b ≡ content_held (mine p) b) → HoldsMore (mine p) (mine q) → (P : Image → Type 0) → Always sizes found P → Always sizes (entries_held (mine q)) P
+always_more sizes p q found same more P always state tree possible = always state tree (record { shows = possible.shows; agrees = λ b c e. possible.agrees b c (held_under (mine q) b ∙ by b c (finmap.get (mine p).held b) refl (sym (same b) ∙ e)) })
+  where
+    by : (b : ℕ) (c : List ℕ) (o : Option Hold) → finmap.get (mine p).held b ≡ o → option_map (λ (h : Hold). take 64 h.loaded) o ≡ Some c → content_held (mine q) b ≡ Some c
+    by b c None is e = absurd cc
+    by b c (Some h) is e = ap (option_map (λ (h : Hold). take 64 h.loaded)) (more.kept b h is) ∙ e
+
+module _ (cache : CacheParameters) (sizes : Numbers) (p q r : PassState) (call : Call) (then : TakesMore cache q r) where
+  -- blocks taken before and one block more
+  pub for_call : (found : Entries) (block : ℕ) → HasTaken sizes q found → IsDue sizes found call block → ((b : ℕ) → holds r b ≡ true → (b ≡ block) ⊎ (holds q b ≡ true)) → TakesFor sizes p q call → TakesFor sizes p r call
+  for_call found block has due only before b here was = ⊎_elim
+      (λ same. subst (λ c. Always sizes (entries_held (mine r)) (λ image. Foot sizes image call c)) (sym same) (always_more sizes q r found has.same then.more (λ image. Foot sizes image call block) due.foot))
+      (λ there. always_more sizes q r (entries_held (mine q)) (held_under (mine q)) then.more (λ image. Foot sizes image call b) (before b there was))
+      (only b here)
 
 pub takes_none : (cache : CacheParameters) (sizes : Numbers) (p : PassState) (found : Entries) → HasTaken sizes p found → TakesMore cache p p
 takes_none cache sizes p found has = record {

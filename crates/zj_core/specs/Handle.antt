@@ -58,8 +58,9 @@ pub record IsDue (sizes : Numbers) (found : Entries) (call : Call) (block : ℕ)
   pub first : content_under found (root_block sizes) ≡ None → block ≡ root_block sizes
   pub within : block < sizes.blocks
 
--- some reply and new contents perform a call over blocks that were taken
+-- The root's block was taken, and some reply and new contents perform a call over blocks that were taken.
 pub record IsPerformed (sizes : Numbers) (found : Entries) (call : Call) : Type 0 where
+  pub root : IsSome (content_under found (root_block sizes))
   pub reply : Reply
   pub written : Changes
   pub performs : Performs sizes found written call reply
@@ -68,5 +69,11 @@ pub record IsPerformed (sizes : Numbers) (found : Entries) (call : Call) : Type 
 -- are held. The first is that of the root's node.
 pub record NeedsNext (sizes : Numbers) (p : PassState) (call : Call) (block : ℕ) : Type 0 where
   pub free : holds p block ≡ false
+  pub within : block < sizes.blocks
   pub foot : Always sizes (entries_held (mine p)) (λ image. Foot sizes image call block)
   pub first : holds p (root_block sizes) ≡ false → block ≡ root_block sizes
+
+-- Each block that a pass holds and did not hold before is one that the call may take, in every state that shows a tree and has
+-- the blocks that are held.
+abbrev pub TakesFor : Numbers → PassState → PassState → Call → Type 0
+TakesFor sizes old new call = (b : ℕ) → holds new b ≡ true → holds old b ≡ false → Always sizes (entries_held (mine new)) (λ image. Foot sizes image call b)

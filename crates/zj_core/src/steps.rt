@@ -9,7 +9,7 @@ ghost use Rattle.zj_history.specs.Operation.{Operation};
 ghost use Rattle.zj_turns.specs.Views.{Has, Hold};
 ghost use Rattle.zj_turns.specs.Passes.{IsActive, holds, left_of, mine, now_knowing};
 ghost use Rattle.zj_core.specs.Core.{IsTakeCause, NeedsNoMore, TakesNext};
-ghost use Rattle.zj_core.specs.Handle.{HasTaken, IsBegun, IsDue, IsPerformed, root_block};
+ghost use Rattle.zj_core.specs.Handle.{HasTaken, IsBegun, IsDue, IsPerformed, TakesFor, root_block};
 ghost use Rattle.zj_core.specs.Steps.{Draws, IsMissed, KeepsTree, Knows, TakesMore, given_back, stored_into};
 
 use crate::fault::TakeFault;
@@ -121,6 +121,7 @@ pub(crate) fn take_all(
     requires has { HasTaken sizes.now pass.old taken.old }
     ensures has { HasTaken sizes.now pass.new taken.new }
     ensures takes { TakesMore cache.now pass.old pass.new }
+    ensures foot { TakesFor sizes.now pass.old pass.new call.now }
     ensures performs { IfOk result (λ done. Performs sizes.now taken.new done.1 call.now done.0) }
     ensures root { OnOk result (content_under taken.new (root_block sizes.now) ≢ None) }
     ensures cause { IfErr result (IsTakeCause cache.now sizes.now pass.new call.now) }

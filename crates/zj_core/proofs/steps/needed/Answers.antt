@@ -5,7 +5,7 @@ use Rattle.std.specs.Option.{IfSome, IfNone}
 use Rattle.std.specs.declared.alloc.AllocError.{AllocError}
 use Rattle.zj_block.specs.declared.numbers.BlockNo.{BlockNo}
 use Rattle.zj_core.specs.Handle.{IsDue, IsPerformed}
-use Rattle.zj_core.proofs.Needing.{is_due, is_performed, never_odd}
+use Rattle.zj_core.proofs.Needing.{is_due, is_performed, never_odd, root_taken}
 use Rattle.zj_core.proofs.steps.needed.Goals as goal
 use Rattle.zj_core.proofs.steps.needed.Goals.{in-Need, in-Done}
 
@@ -24,6 +24,7 @@ returns-clause-none c =
       | in-Need w ↦ subst says (sym w.result-is) tt
       | in-Done w ↦ subst says (sym w.result-is)
           (record {
+            root = root_taken c.args.sizes.now c.args.taken.now c.args.call.now c.in_ok-block.field-0 w.in-Done.reply w.in-Done.written w.in-Done.is c.in_ok-block.ensures.root;
             reply = w.in-Done.reply;
             written = w.in-Done.written;
             performs = is_performed c.args.sizes.now c.args.taken.now c.args.call.now c.in_ok-block.field-0 w.in-Done.reply w.in-Done.written w.in-Done.is c.in_ok-block.ensures.says;

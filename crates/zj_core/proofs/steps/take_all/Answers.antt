@@ -1,17 +1,18 @@
 -- One block after the other is taken.
-use Rattle.std.proofs.Common.{◌<◌, ℕ, length, sym, subst}
+use Rattle.std.proofs.Common.{◌<◌, ◌∙◌, ℕ, length, sym, subst, true≢false}
 use Rattle.std.proofs.lemmas.Result.{err_from_is_err_and}
 use Rattle.zj_block.specs.Sizes.{Numbers}
 use Rattle.zj_turns.specs.Passes.{PassState}
 use Rattle.zj_core.specs.Core.{IsTakeCause}
-use Rattle.zj_core.specs.Handle.{HasTaken, IsDue}
-use Rattle.zj_core.proofs.Needing.{is_due, missed_next, never_odd, takes_none, takes_then}
+use Rattle.zj_core.specs.Handle.{HasTaken, IsDue, TakesFor}
+use Rattle.zj_core.proofs.Needing.{for_call, is_due, missed_next, never_odd, takes_none, takes_then}
 use Rattle.zj_core.proofs.steps.take_all.Goals as goal
 
 pub loop-block-init : goal.loop-block-init
 loop-block-init c = record {
   has = c.requires.has;
   takes = takes_none c.args.cache.now c.args.sizes.now c.args.pass.now c.args.taken.now c.requires.has;
+  foot = λ b here was. absurd (true≢false (sym here ∙ was));
 }
 
 pub take_block-requires-clause-within : goal.take_block-requires-clause-within
@@ -20,10 +21,13 @@ take_block-requires-clause-within c =
     (is_due c.args.sizes.now c.loop-block.taken c.args.call.now c.in_ok-block.field-0 c.in-Need.block c.in-Need.is c.in_ok-block.ensures.says c.in_ok-block.ensures.root c.in_ok-block.ensures.within).within
 
 pub loop-block-preserved : goal.loop-block-preserved
-loop-block-preserved c = record {
-  has = subst (λ (n : Numbers). HasTaken n c.take_block.new.pass c.take_block.new.taken) c.requires.sizes c.in_ok-take_block-in-Need.ensures.has;
-  takes = takes_then c.args.cache.now c.args.pass.now c.loop-block.pass c.take_block.new.pass c.loop-block.invariant.takes c.in_ok-take_block-in-Need.ensures.takes;
-}
+loop-block-preserved c =
+    let due : IsDue c.args.sizes.now c.loop-block.taken c.args.call.now c.in-Need.block.0 = is_due c.args.sizes.now c.loop-block.taken c.args.call.now c.in_ok-block.field-0 c.in-Need.block c.in-Need.is c.in_ok-block.ensures.says c.in_ok-block.ensures.root c.in_ok-block.ensures.within in
+    record {
+      has = subst (λ (n : Numbers). HasTaken n c.take_block.new.pass c.take_block.new.taken) c.requires.sizes c.in_ok-take_block-in-Need.ensures.has;
+      takes = takes_then c.args.cache.now c.args.pass.now c.loop-block.pass c.take_block.new.pass c.loop-block.invariant.takes c.in_ok-take_block-in-Need.ensures.takes;
+      foot = for_call c.args.cache.now c.args.sizes.now c.args.pass.now c.loop-block.pass c.take_block.new.pass c.args.call.now c.in_ok-take_block-in-Need.ensures.takes c.loop-block.taken c.in-Need.block.0 c.loop-block.invariant.has due c.in_ok-take_block-in-Need.ensures.only c.loop-block.invariant.foot;
+    }
 
 pub returns-in_err-take_block-in-Need-clause-cause : goal.returns-in_err-take_block-in-Need-clause-cause
 returns-in_err-take_block-in-Need-clause-cause c =
@@ -32,3 +36,7 @@ returns-in_err-take_block-in-Need-clause-cause c =
     rw (p.1, p.2)
     (subst (λ (q : PassState). IsTakeCause c.args.cache.now c.args.sizes.now q c.args.call.now c.in_err-take_block-in-Need.field-0.0) (sym c.in_err-take_block-in-Need.ensures.pass)
     (missed_next c.args.cache.now c.args.sizes.now c.loop-block.pass c.loop-block.taken c.args.call.now c.loop-block.invariant.has c.in-Need.block.0 due c.in_err-take_block-in-Need.field-0.0 c.in_err-take_block-in-Need.ensures.missed))
+
+pub returns-in_err-take_block-in-Need-clause-foot : goal.returns-in_err-take_block-in-Need-clause-foot
+returns-in_err-take_block-in-Need-clause-foot c =
+    subst (λ (q : PassState). TakesFor c.args.sizes.now c.args.pass.now q c.args.call.now) (sym c.in_err-take_block-in-Need.ensures.pass) c.loop-block.invariant.foot

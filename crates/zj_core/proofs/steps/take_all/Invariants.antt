@@ -1,7 +1,7 @@
 -- What was taken so far, and how many blocks are left.
 use Rattle.std.proofs.Common.{length}
 use Rattle.zj_block.specs.Lists.{count_left}
-use Rattle.zj_core.specs.Handle.{HasTaken}
+use Rattle.zj_core.specs.Handle.{HasTaken, TakesFor}
 use Rattle.zj_core.specs.Steps.{TakesMore}
 use Rattle.zj_core.proofs.steps.take_all.Given as goal
 
@@ -9,6 +9,7 @@ abbrev pub invariant-loop-block : goal.invariant-loop-block
 invariant-loop-block l = record {
   has : HasTaken l.sizes l.pass l.taken;
   takes : TakesMore l.cache l.fn.pass l.pass;
+  foot : TakesFor l.sizes l.fn.pass l.pass l.call;
 }
 
 abbrev pub decreases-loop-block : goal.decreases-loop-block
