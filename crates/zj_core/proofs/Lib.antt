@@ -4,5 +4,6 @@ pub mod Knowing
 pub mod Meeting
 pub mod Needing
 pub mod Resting
+pub mod Stopping
 pub mod Stored
 pub mod Taking
