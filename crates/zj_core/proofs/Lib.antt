@@ -1,6 +1,9 @@
 pub mod Finished
 pub mod Given
 pub mod Knowing
+pub mod Meeting
 pub mod Needing
+pub mod Resting
+pub mod Stopping
 pub mod Stored
 pub mod Taking

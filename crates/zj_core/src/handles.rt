@@ -237,6 +237,7 @@ impl<D: Disk> Core<D> {
         ensures cause { IfErr result (IsCallCause cache.now self.old.sizes self.old.pass) }
         ensures err { OnErr result (self.new ≡ self.old) }
     {
+        let _ = &self.alloc;
         self.begin(call)?;
         match self.stop(cache) {
             Ok(done) => Ok(done),

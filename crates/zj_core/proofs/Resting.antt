@@ -1,0 +1,130 @@
+-- What a core keeps: it is made, it rests between two calls, and its handle is dropped.
+use Rattle.std.proofs.Common.{◌≡◌, ◌≢◌, ◌⊎◌, inl, inr, ⊎_elim, ℕ, ◌-◌, Bool, true, false, true≢false, cond, is_some, List, [], ◌∷◌, length, take, Option, Some, None, IsSome, refl, sym, ap, ◌∙◌, subst}
+use Rattle.std.specs.Option.{option_map, unwrap_or}
+use Rattle.std.specs.Ordering.{nat_cmp}
+use Rattle.std.specs.FinMap as finmap
+use Rattle.zj_block.specs.Lists.{Entries, content_under}
+use Rattle.zj_block.specs.Sizes.{Numbers}
+use Rattle.zj_area.specs.Journal.{AreaView}
+use Rattle.zj_layout.proofs.Follow.{none_some}
+use Rattle.zj_turns.specs.Views.{Has, Hold, Known, blank}
+use Rattle.zj_turns.specs.Passes.{IsIdle, PassState, holds, left_of, lone, mine, now_knowing}
+use Rattle.zj_turns.proofs.Lone.{lone_is}
+use Rattle.zj_turns.proofs.Maps.{get_here}
+use Rattle.zj_core.specs.declared.handles.Handle.{Handle}
+use Rattle.zj_core.specs.Core.{CoreState, IsCore, IsReady, IsSteady, taken_by}
+use Rattle.zj_core.specs.Handle.{HasTaken, content_held, root_block}
+use Rattle.zj_core.specs.Steps.{emptied, given_back}
+use Rattle.zj_core.proofs.Finished.{root_held}
+use Rattle.zj_core.proofs.Given.{given_clear, given_get, given_number, given_operations, given_ticket}
+use Rattle.zj_core.proofs.Knowing.{has_now, mine_is, none_there}
+use Rattle.zj_core.proofs.Taking.{not_held}
+
+-- a core that holds nothing has taken nothing
+none_taken : (sizes : Numbers) (p : PassState) → Has p.view p.core → (mine p).drawn ≡ false → (mine p).held ≡ finmap.empty → HasTaken sizes p []
+none_taken sizes p known clear empty = record {
+  known = known;
+  clear = clear;
+  read = λ b h at. absurd (none_some (sym (none b) ∙ at));
+  same = λ b. ap (option_map (λ (h : Hold). take 64 h.loaded)) (sym (none b));
+  begun = inl refl;
+}
+  where
+    none : (b : ℕ) → finmap.get (mine p).held b ≡ None
+    none b = ap (λ m. finmap.get m b) empty ∙ finmap.get-empty {X = Hold} nat_cmp b
+
+-- ---- a core is made
+
+lone_taken : (sizes : Numbers) (p : PassState) → IsIdle p.table p.core p → HasTaken sizes p []
+lone_taken sizes p idle =
+    let own : mine p ≡ idle.known = lone_is p.table p.core idle.known p idle.is in
+    none_taken sizes p
+    (subst (λ (x : PassState). Has x.view x.core) (sym idle.is) (idle.known, get_here finmap.empty p.core idle.known))
+    (ap (λ (k : Known). k.drawn) own ∙ idle.clear)
+    (ap (λ (k : Known). k.held) own ∙ idle.none_held)
+
+pub core_made : {D : Type 0} (p : PassState) (area : AreaView D) (sizes : Numbers) → IsIdle p.table p.core p → area.core ≡ p.core → area.sizes ≡ sizes → IsReady area → IsCore p area sizes None
+core_made p area sizes idle core sizes_are ready = record {
+  has = lone_taken sizes p idle;
+  left = λ some. absurd (true≢false (sym some));
+  core = core;
+  sizes_are = sizes_are;
+  ready = ready;
+}
+
+-- ---- it rests
+
+-- a core as its parts show it
+abbrev pub shown : {D : Type 0} → PassState → AreaView D → Numbers → Option Handle → CoreState D
+shown p area sizes handle = record { pass = p; area = area; sizes = sizes; begun = option_map (λ (h : Handle). h.call) handle }
+
+module _ {D : Type 0} (p : PassState) (area : AreaView D) (sizes : Numbers) (handle : Option Handle) (keeps : IsCore p area sizes handle) where
+  shown_rests : IsSteady (shown p area sizes handle)
+  shown_rests = record {
+    clear = keeps.has.clear;
+    read = keeps.has.read;
+    idle = λ none. none_there (mine p).held (λ b. not_held sizes p (taken_by handle) keeps.has b (by handle b none));
+    root = λ b there. ⊎_elim
+        (λ empty. absurd (true≢false (sym there ∙ ap is_some (not_held sizes p (taken_by handle) keeps.has b (ap (λ found. content_under found b) empty)))))
+        (λ begun. root_held sizes p (taken_by handle) keeps.has (λ empty. true≢false (sym begun.0 ∙ ap (λ found. is_some (content_under found (root_block sizes))) empty)))
+        keeps.has.begun;
+  }
+    where
+      by : (handle : Option Handle) (b : ℕ) → option_map (λ (h : Handle). h.call) handle ≡ None → content_under (taken_by handle) b ≡ None
+      by None b none = refl
+      by (Some h) b none = absurd (none_some (sym none))
+
+  pub core_rests : (c : CoreState D) → shown p area sizes handle ≡ c → IsSteady c
+  core_rests c is = subst (IsSteady {D = D}) is shown_rests
+
+-- ---- its handle is dropped
+
+module _ (sizes : Numbers) (p : PassState) (found : Entries) (has : HasTaken sizes p found) where
+  all_given : (given_back (mine p) found).held ≡ finmap.empty
+  all_given = none_there (given_back (mine p) found).held (λ b. given_get (mine p) found b ∙ by b (content_under found b) refl)
+    where
+      by : (b : ℕ) (o : Option (List ℕ)) → content_under found b ≡ o → cond (is_some o) None (finmap.get (mine p).held b) ≡ None
+      by b (Some c) e = refl
+      by b None e = not_held sizes p found has b e
+
+  given_undrawn : (given_back (mine p) found).drawn ≡ false
+  given_undrawn = by found all_given
+    where
+      by : (es : Entries) → (given_back (mine p) es).held ≡ finmap.empty → (given_back (mine p) es).drawn ≡ false
+      by [] empty = has.clear
+      by (e ∷ es) empty = given_clear (mine p) (e ∷ es) (λ none. absurd (cc)) empty
+
+  pub given_all : given_back (mine p) found ≡ emptied (mine p)
+  given_all = λ i. record {
+    operations = given_operations (mine p) found i;
+    held = all_given i;
+    drawn = given_undrawn i;
+    ticket = given_ticket (mine p) found i;
+    number = given_number (mine p) found i;
+  }
+
+  pub dropped : (q : PassState) → q ≡ now_knowing p (given_back (mine p) found) → q ≡ now_knowing p (emptied (mine p))
+  dropped q is = is ∙ ap (now_knowing p) given_all
+
+-- a pass that holds nothing any more
+pub empty_taken : (sizes : Numbers) (p q : PassState) (k : Known) → q ≡ now_knowing p k → k.drawn ≡ false → k.held ≡ finmap.empty → HasTaken sizes q []
+empty_taken sizes p q k is clear empty = none_taken sizes q (has_now p q k is) (ap (λ (x : Known). x.drawn) (mine_is p q k is) ∙ clear) (ap (λ (x : Known). x.held) (mine_is p q k is) ∙ empty)
+
+pub core_emptied : {D : Type 0} (p m q : PassState) (area : AreaView D) (sizes : Numbers) (handle after : Option Handle) (k : Known) → IsCore p area sizes handle → m.core ≡ p.core → q ≡ now_knowing m k → k.drawn ≡ false → k.held ≡ finmap.empty → after ≡ None → IsCore q area sizes after
+core_emptied {D} p m q area sizes handle after k keeps core is clear empty closed = subst (λ (o : Option Handle). IsCore {D = D} q area sizes o) (sym closed) (record {
+  has = empty_taken sizes m q k is clear empty;
+  left = λ some. absurd (true≢false (sym some));
+  core = keeps.core ∙ sym core ∙ ap (λ (x : PassState). x.core) (sym is);
+  sizes_are = keeps.sizes_are;
+  ready = keeps.ready;
+})
+
+pub shows_dropped : {D : Type 0} (p q : PassState) (area : AreaView D) (sizes : Numbers) (handle after : Option Handle) (c : CoreState D) → shown p area sizes handle ≡ c → q ≡ now_knowing p (emptied (mine p)) → after ≡ None
+    → shown q area sizes after ≡ record { pass = now_knowing c.pass (emptied (mine c.pass)); area = c.area; sizes = c.sizes; begun = None }
+shows_dropped {D} p q area sizes handle after c is drops closed =
+    (λ i. shown (drops i) area sizes (closed i))
+    ∙ ap (λ (x : CoreState D). record { pass = now_knowing x.pass (emptied (mine x.pass)); area = x.area; sizes = x.sizes; begun = None }) is
+
+-- a handle that is open has taken what the core holds
+pub has_opened : (sizes : Numbers) (p : PassState) (handle : Option Handle) (h : Handle) → Some h ≡ handle → HasTaken sizes p (taken_by handle) → HasTaken sizes p h.taken
+has_opened sizes p handle h is has = subst (λ (o : Option Handle). HasTaken sizes p (taken_by o)) (sym is) has
