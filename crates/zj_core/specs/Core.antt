@@ -2,17 +2,19 @@
 use Rattle.std.specs.Prelude.{◌≡◌, ◌≢◌, ◌⊎◌, ◌↔◌, ℕ, ◌-◌, ◌^◌, ◌<◌, ◌≤◌, Bool, true, false, List, [], length, Option, Some, None, IfSome, IsSome, ⊤}
 use Rattle.std.specs.FinMap as finmap
 use Rattle.std.specs.Ordering.{nat_cmp}
-use Rattle.zj_block.specs.Lists.{Entries}
+use Rattle.zj_block.specs.Lists.{Entries, content_under}
 use Rattle.zj_block.specs.Sizes.{Numbers}
 use Rattle.zj_area.specs.Journal.{AreaView}
 use Rattle.zj_history.specs.Operation.{Operation}
 use Rattle.zj_tree.specs.declared.call.Call.{Call}
 use Rattle.zj_tree.specs.declared.call.Reply.{Reply}
+use Rattle.zj_dirs.specs.Possible.{Always}
+use Rattle.zj_inode.specs.Footprint.{Foot}
 use Rattle.zj_inode.specs.Performs.{Performs}
 use Rattle.zj_inode.specs.Run.{contents_found}
 use Rattle.zj_turns.specs.Views.{Known, Hold}
 use Rattle.zj_turns.specs.Passes.{CacheParameters, IsActive, PassState, holds, left_of, mine, now_knowing}
-use Rattle.zj_core.specs.Handle.{HasTaken, IsPerformed, IsRead, NeedsNext, entries_held, root_block}
+use Rattle.zj_core.specs.Handle.{HasTaken, IsPartOfSome, IsPerformed, IsRead, NeedsNext, TakesFor, content_held, entries_held, root_block}
 use Rattle.zj_core.specs.Steps.{IsFree, IsMissed, Knows, TakesMore, with_operation}
 use Rattle.zj_core.specs.declared.fault.BeginFault.{BeginFault}
 use Rattle.zj_core.specs.declared.fault.BeginFault.TheVariants as begins
@@ -62,12 +64,13 @@ pub record IsOf {D : Type 0} (cache : CacheParameters) (c : CoreState D) : Type 
   pub many : length cache.start ≡ c.sizes.blocks
 
 -- A core between two calls: it has stored into none of the blocks that it holds and drawn for none. It holds blocks for an open
--- handle alone, and among them that of the root's node.
+-- handle alone, and among them that of the root's node; and some state that shows a tree has what it loaded.
 pub record IsSteady {D : Type 0} (c : CoreState D) : Type 0 where
   pub clear : (mine c.pass).drawn ≡ false
   pub read : (b : ℕ) (h : Hold) → finmap.get (mine c.pass).held b ≡ Some h → IsRead h
   pub idle : c.begun ≡ None → (mine c.pass).held ≡ finmap.empty
   pub root : (b : ℕ) → holds c.pass b ≡ true → holds c.pass (root_block c.sizes) ≡ true
+  pub possible : (b : ℕ) → holds c.pass b ≡ true → IsPartOfSome c.sizes (entries_held (mine c.pass))
 
 -- why a handle isn't begun: no draw is left; or memory ran out
 abbrev pub IsBeginCause : PassState → BeginFault → Type 0
@@ -96,21 +99,32 @@ abbrev pub IsStopCause : CacheParameters → Numbers → PassState → Call → 
 IsStopCause cache sizes p call (stops.Busy block holder) = IsTakeCause cache sizes p call (takes.Busy block holder)
 IsStopCause cache sizes p call stops.NoMemory = ⊤
 
--- A handle was stopped: the core has one operation more, with the ticket answered and the number of the running transaction, which
--- performs the call with the reply answered. It holds nothing any more. Where it had not taken the root's block before, that was free.
+-- A handle was stopped: the core has one operation more, with the ticket answered and the number of the running transaction. It found
+-- what the handle held, the root's block, and blocks beside that were free and that the call may take; and on them it performs the
+-- call with the reply answered. The core holds nothing any more.
 pub record Performed (cache : CacheParameters) (sizes : Numbers) (number : ℕ) (old new : PassState) (call : Call) (done : Done) : Type 0 where
   pub operation : Operation
   pub ticket : operation.ticket ≡ done.ticket
   pub core : operation.core ≡ old.core
   pub number_is : operation.number ≡ number
+  pub kept : (b : ℕ) (content : List ℕ) → content_held (mine old) b ≡ Some content → content_under (contents_found operation) b ≡ Some content
+  pub root : IsSome (content_under (contents_found operation) (root_block sizes))
+  pub free : (b : ℕ) → IsSome (content_under (contents_found operation) b) → holds old b ≡ false → IsFree old b
+  pub foot : (b : ℕ) → IsSome (content_under (contents_found operation) b) → holds old b ≡ false → Always sizes (contents_found operation) (λ image. Foot sizes image call b)
   pub performs : Performs sizes (contents_found operation) operation.written call done.reply
   pub pass : new ≡ now_knowing old (with_operation (mine old) operation)
   pub knows : Knows cache new
-  pub free : holds old (root_block sizes) ≡ false → IsFree old (root_block sizes)
 
--- Why a call that was begun and stopped at once isn't made: no draw is left; or another core has a block that it needs, where it took
--- the root's block first if the block is another one; or memory ran out.
-abbrev pub IsCallCause : CacheParameters → Numbers → PassState → CallFault → Type 0
-IsCallCause cache sizes p (calls.Spent drawn) = IsBeginCause p (begins.Spent drawn)
-IsCallCause cache sizes p (calls.Busy block holder) = IsMissed cache p block (takes.Busy block holder) × ((block ≡ root_block sizes) ⊎ IsFree p (root_block sizes))
-IsCallCause cache sizes p calls.NoMemory = ⊤
+-- On the way of a call, for which a draw is left, blocks were taken that it may take, and another core has the one that it needs next.
+pub record IsHeldUp (cache : CacheParameters) (sizes : Numbers) (p : PassState) (call : Call) (block holder : ℕ) : Type 0 where
+  pub left : left_of p ≢ 0
+  pub middle : PassState
+  pub takes : TakesMore cache p middle
+  pub foot : TakesFor sizes p middle call
+  pub cause : IsTakeCause cache sizes middle call (takes.Busy block holder)
+
+-- Why a call that is begun and stopped at once isn't made: no draw is left; or another core holds it up; or memory ran out.
+abbrev pub IsCallCause : CacheParameters → Numbers → PassState → Call → CallFault → Type 0
+IsCallCause cache sizes p call (calls.Spent drawn) = IsBeginCause p (begins.Spent drawn)
+IsCallCause cache sizes p call (calls.Busy block holder) = IsHeldUp cache sizes p call block holder
+IsCallCause cache sizes p call calls.NoMemory = ⊤

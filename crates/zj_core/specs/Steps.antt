@@ -38,14 +38,15 @@ pub record HoldsMore (old new : Known) : Type 0 where
   pub number : new.number ≡ old.number
   pub kept : (b : ℕ) (h : Hold) → finmap.get old.held b ≡ Some h → finmap.get new.held b ≡ Some h
 
--- A pass took blocks and did nothing else: each was free as it was taken, and one history has what it knows then.
+-- A pass took blocks and did nothing else: none of them was held by a core that it knows, and where it took any, one history has what
+-- it knows then.
 pub record TakesMore (cache : CacheParameters) (old new : PassState) : Type 0 where
   pub more : HoldsMore (mine old) (mine new)
   pub only : new ≡ now_knowing old (mine new)
   pub free : (b : ℕ) → holds new b ≡ true → holds old b ≡ false → IsFree old b
   pub knows : (new ≡ old) ⊎ Knows cache new
 
--- why a block wasn't taken: another core of the cache holds it, surely one that the pass has met; or memory ran out
+-- Why a block wasn't taken: another core of the cache is told, and where the pass has met that core, it holds the block; or memory ran out.
 abbrev pub IsMissed : CacheParameters → PassState → ℕ → TakeFault → Type 0
 IsMissed cache p b (faults.Busy block holder) = (block ≡ b) × (holder ≢ p.core) × (holder < cache.cores)
     × ((k : Known) → finmap.get p.view.known holder ≡ Some k → finmap.contains_key k.held b ≡ true)

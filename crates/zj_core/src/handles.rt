@@ -5,6 +5,7 @@ ghost use Rattle.std.specs.FinMap as finmap;
 ghost use Rattle.zj_turns.specs.Passes.{IsIdle, IsPeer, left_of, mine, now_knowing, with_away, with_view};
 ghost use Rattle.zj_turns.specs.Views.{joined, without};
 ghost use Rattle.zj_core.specs.Core.{IsBeginCause, IsCallCause, IsOf, IsReady, IsSteady, IsStopCause, IsTakeCause, NeedsNoMore, Performed, TakesNext, number_of};
+ghost use Rattle.zj_core.specs.Handle.{TakesFor};
 ghost use Rattle.zj_core.specs.Steps.{TakesMore, emptied};
 
 use crate::fault::{BeginFault, CallFault, StopFault, TakeFault};
@@ -190,6 +191,7 @@ impl<D: Disk> Core<D> {
         ensures closed { OnOk result (self.new ≡ record self.old { pass = self.new.pass; begun = None }) }
         ensures cause { IfErr result (λ fault. IfSome self.old.begun (λ call. IsStopCause cache.now self.old.sizes self.new.pass call fault)) }
         ensures takes { OnErr result (TakesMore cache.now self.old.pass self.new.pass) }
+        ensures foot { OnErr result (IfSome self.old.begun (TakesFor self.old.sizes self.old.pass self.new.pass)) }
         ensures stays { OnErr result (self.new ≡ record self.old { pass = self.new.pass }) }
     {
         let Some(mut handle) = self.handle.take() else {
@@ -234,7 +236,7 @@ impl<D: Disk> Core<D> {
         requires idle { self.old.begun ≡ None }
         ensures done { IfOk result (Performed cache.now self.old.sizes (number_of self.old) self.old.pass self.new.pass call.now) }
         ensures closed { OnOk result (self.new ≡ record self.old { pass = self.new.pass }) }
-        ensures cause { IfErr result (IsCallCause cache.now self.old.sizes self.old.pass) }
+        ensures cause { IfErr result (IsCallCause cache.now self.old.sizes self.old.pass call.now) }
         ensures err { OnErr result (self.new ≡ self.old) }
     {
         let _ = &self.alloc;
