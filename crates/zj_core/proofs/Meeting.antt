@@ -1,7 +1,6 @@
 -- Cores that meet and part: each keeps what it knows of itself.
-use Rattle.std.proofs.Common.{◌≡◌, ◌≢◌, ℕ, ◌-◌, Bool, length, Option, Some, refl, sym, ap, ◌∙◌, subst}
+use Rattle.std.proofs.Common.{◌≡◌, ◌≢◌, ◌-◌, Bool, length, Option, sym, ap, ◌∙◌, subst}
 use Rattle.std.specs.Option.{unwrap_or}
-use Rattle.std.specs.Ordering.{nat_cmp}
 use Rattle.std.specs.FinMap as finmap
 use Rattle.zj_block.specs.Lists.{Entries}
 use Rattle.zj_block.specs.Sizes.{Numbers}

@@ -1,19 +1,19 @@
 -- What a core keeps: it is made, it rests between two calls, and its handle is dropped.
-use Rattle.std.proofs.Common.{◌≡◌, ◌≢◌, ◌⊎◌, inl, inr, ⊎_elim, ℕ, ◌-◌, Bool, true, false, true≢false, cond, is_some, List, [], ◌∷◌, length, take, Option, Some, None, IsSome, refl, sym, ap, ◌∙◌, subst}
-use Rattle.std.specs.Option.{option_map, unwrap_or}
+use Rattle.std.proofs.Common.{◌≡◌, ◌≢◌, ◌⊎◌, inl, ⊎_elim, ℕ, ◌-◌, true, false, true≢false, cond, is_some, List, [], ◌∷◌, take, Option, Some, None, refl, sym, ap, ◌∙◌, subst}
+use Rattle.std.specs.Option.{option_map}
 use Rattle.std.specs.Ordering.{nat_cmp}
 use Rattle.std.specs.FinMap as finmap
 use Rattle.zj_block.specs.Lists.{Entries, content_under}
 use Rattle.zj_block.specs.Sizes.{Numbers}
 use Rattle.zj_area.specs.Journal.{AreaView}
 use Rattle.zj_layout.proofs.Follow.{none_some}
-use Rattle.zj_turns.specs.Views.{Has, Hold, Known, blank}
-use Rattle.zj_turns.specs.Passes.{IsIdle, PassState, holds, left_of, lone, mine, now_knowing}
+use Rattle.zj_turns.specs.Views.{Has, Hold, Known}
+use Rattle.zj_turns.specs.Passes.{IsIdle, PassState, mine, now_knowing}
 use Rattle.zj_turns.proofs.Lone.{lone_is}
 use Rattle.zj_turns.proofs.Maps.{get_here}
 use Rattle.zj_core.specs.declared.handles.Handle.{Handle}
 use Rattle.zj_core.specs.Core.{CoreState, IsCore, IsReady, IsSteady, taken_by}
-use Rattle.zj_core.specs.Handle.{HasTaken, content_held, root_block}
+use Rattle.zj_core.specs.Handle.{HasTaken, root_block}
 use Rattle.zj_core.specs.Steps.{emptied, given_back}
 use Rattle.zj_core.proofs.Finished.{root_held}
 use Rattle.zj_core.proofs.Given.{given_clear, given_get, given_number, given_operations, given_ticket}

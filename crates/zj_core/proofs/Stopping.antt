@@ -1,5 +1,5 @@
 -- A handle that is stopped, and a call that is begun and stopped at once.
-use Rattle.std.proofs.Common.{◌≡◌, ◌≢◌, ◌⊎◌, inl, inr, ℕ, ◌-◌, ◌<◌, Bool, true, false, true≢false, is_some, List, [], ◌∷◌, ◌++◌, length, Option, Some, None, IfSome, refl, sym, ap, ◌∙◌, subst}
+use Rattle.std.proofs.Common.{◌≡◌, ◌≢◌, ◌⊎◌, inl, inr, ℕ, ◌-◌, Bool, true, false, is_some, List, [], ◌∷◌, ◌++◌, Option, Some, None, IfSome, refl, sym, ap, ◌∙◌, subst}
 use Rattle.std.specs.Option.{option_map}
 use Rattle.std.specs.Ordering.{nat_cmp}
 use Rattle.std.specs.FinMap as finmap
@@ -13,19 +13,18 @@ use Rattle.zj_tree.specs.Apply.{apply}
 use Rattle.zj_layout.specs.Shows.{limits_of}
 use Rattle.zj_inode.specs.Performs.{Performs}
 use Rattle.zj_inode.specs.Run.{contents_found}
-use Rattle.zj_turns.specs.Views.{Has, Hold, Known}
+use Rattle.zj_turns.specs.Views.{Has, Hold}
 use Rattle.zj_turns.specs.Passes.{CacheParameters, PassState, holds, mine, now_knowing}
 use Rattle.zj_turns.proofs.Maps.{get_else}
 use Rattle.zj_core.specs.declared.fault.CallFault.{CallFault}
 use Rattle.zj_core.specs.declared.fault.StopFault.{StopFault}
 use Rattle.zj_core.specs.declared.fault.StopFault.TheVariants as stops
-use Rattle.zj_core.specs.declared.fault.TakeFault.{TakeFault}
 use Rattle.zj_core.specs.declared.fault.TakeFault.TheVariants as takes
 use Rattle.zj_core.specs.declared.handles.Done.{Done}
 use Rattle.zj_core.specs.declared.handles.Handle.{Handle}
 use Rattle.zj_core.specs.Core.{CoreState, IsCallCause, IsCore, IsStopCause, Performed, number_of}
 use Rattle.zj_core.specs.Handle.{HasTaken, NeedsNext, root_block}
-use Rattle.zj_core.specs.Steps.{Draws, IsFree, IsMissed, KeepsTree, Knows, TakesMore, emptied, unstopped_by, with_operation}
+use Rattle.zj_core.specs.Steps.{Draws, IsFree, IsMissed, KeepsTree, TakesMore, emptied, unstopped_by, with_operation}
 use Rattle.zj_core.proofs.Finished.{taken_held}
 use Rattle.zj_core.proofs.Knowing.{knowing_again, knowing_same}
 use Rattle.zj_core.proofs.Needing.{held_under, performs_same}

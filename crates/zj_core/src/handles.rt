@@ -239,6 +239,7 @@ impl<D: Disk> Core<D> {
         ensures cause { IfErr result (IsCallCause cache.now self.old.sizes self.old.pass call.now) }
         ensures err { OnErr result (self.new ≡ self.old) }
     {
+        // What the core keeps is known from here on.
         let _ = &self.alloc;
         self.begin(call)?;
         match self.stop(cache) {

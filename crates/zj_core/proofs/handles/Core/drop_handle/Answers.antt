@@ -1,9 +1,6 @@
 -- All that was taken is given back.
-use Rattle.std.proofs.Common.{inr, refl, sym, subst}
-use Rattle.zj_turns.specs.Passes.{mine, now_knowing}
-use Rattle.zj_block.specs.Lists.{Entries}
-use Rattle.zj_core.specs.Core.{taken_by}
-use Rattle.zj_core.specs.Handle.{HasTaken}
+use Rattle.std.proofs.Common.{inr, refl}
+use Rattle.zj_turns.specs.Passes.{mine}
 use Rattle.zj_core.specs.Steps.{emptied}
 use Rattle.zj_core.proofs.Resting.{core_emptied, dropped, has_opened, shows_dropped}
 use Rattle.zj_core.proofs.handles.Core.drop_handle.Goals as goal
