@@ -119,7 +119,7 @@ pub record Performed (cache : CacheParameters) (sizes : Numbers) (number : ℕ) 
 pub record IsHeldUp (cache : CacheParameters) (sizes : Numbers) (p : PassState) (call : Call) (block holder : ℕ) : Type 0 where
   pub left : left_of p ≢ 0
   pub middle : PassState
-  pub takes : TakesMore cache p middle
+  pub taken : TakesMore cache p middle
   pub foot : TakesFor sizes p middle call
   pub cause : IsTakeCause cache sizes middle call (takes.Busy block holder)
 

@@ -1,0 +1,77 @@
+-- What a line does on its core, which knows what all cores know.
+use Rattle.std.specs.Prelude.{◌≡◌, ◌⊎◌, ℕ, List, ◌++◌, ◌+◌, take, drop, Option, Some, None, slice_get, slice_set, ⊤}
+use Rattle.zj_tree.specs.declared.call.Call.{Call}
+use Rattle.zj_script.specs.declared.line.Act.{Act}
+use Rattle.zj_script.specs.declared.line.Act.TheVariants as acts
+use Rattle.zj_script.specs.declared.answer.Form.{Form}
+use Rattle.zj_script.specs.declared.answer.Form.TheVariants as forms
+use Rattle.zj_turns.specs.Passes.{CacheParameters, PassState, mine, now_knowing}
+use Rattle.zj_core.specs.Handle.{TakesFor}
+use Rattle.zj_core.specs.Steps.{TakesMore, emptied}
+use Rattle.zj_core.specs.declared.fault.TakeFault.TheVariants as takes
+use Rattle.zj_core.specs.Core.{CoreState, IsHeldUp, IsTakeCause, NeedsNoMore, Performed, TakesNext, number_of}
+use Rattle.zj_session.specs.Gathering.{gathered, passes_of}
+
+-- the acts of a handle: a whole call, and a call step by step
+abbrev pub IsHandled : Act → Type 0
+IsHandled (acts.Call call) = ⊤
+IsHandled (acts.Begin call) = ⊤
+IsHandled acts.Take = ⊤
+IsHandled acts.Stop = ⊤
+IsHandled acts.Drop = ⊤
+IsHandled act = ⊥
+
+-- What an act does to its core, and its answer says, where no handle is open. A call is performed, or held up by another core; a handle is begun; and
+-- the other acts don't suit the core.
+abbrev pub DoesIdle : {D : Type 0} → CacheParameters → CoreState D → CoreState D → Act → Form → Type 0
+DoesIdle cache old new (acts.Call call) (forms.Drew ticket reply) = Performed cache old.sizes (number_of old) old.pass new.pass call (record { ticket = ticket; reply = reply }) × (new ≡ record old { pass = new.pass })
+DoesIdle cache old new (acts.Call call) (forms.Busy block holder) = IsHeldUp cache old.sizes old.pass call block holder × (new ≡ old)
+DoesIdle cache old new (acts.Begin call) forms.Begun = new ≡ record old { begun = Some call }
+DoesIdle cache old new acts.Take forms.Order = new ≡ old
+DoesIdle cache old new acts.Stop forms.Order = new ≡ old
+DoesIdle cache old new acts.Drop forms.Order = new ≡ old
+DoesIdle cache old new act form = ⊥
+
+-- What it does where a handle is open for a call: the next block is taken, or none is needed, or another core has it; the call is
+-- performed, or held up by another core, where the handle keeps what it took; the handle is dropped; and the other acts don't suit.
+abbrev pub DoesOpen : {D : Type 0} → CacheParameters → CoreState D → CoreState D → Call → Act → Form → Type 0
+DoesOpen cache old new call acts.Take (forms.Took block) = TakesNext cache old.sizes old.pass new.pass call block × (new ≡ record old { pass = new.pass })
+DoesOpen cache old new call acts.Take forms.Ready = NeedsNoMore old.sizes old.pass call × (new ≡ old)
+DoesOpen cache old new call acts.Take (forms.Busy block holder) = IsTakeCause cache old.sizes old.pass call (takes.Busy block holder) × (new ≡ old)
+DoesOpen cache old new call acts.Stop (forms.Drew ticket reply) = Performed cache old.sizes (number_of old) old.pass new.pass call (record { ticket = ticket; reply = reply }) × (new ≡ record old { pass = new.pass; begun = None })
+DoesOpen cache old new call acts.Stop (forms.Busy block holder) =
+    TakesMore cache old.pass new.pass × TakesFor old.sizes old.pass new.pass call × IsTakeCause cache old.sizes new.pass call (takes.Busy block holder) × (new ≡ record old { pass = new.pass })
+DoesOpen cache old new call acts.Drop forms.Dropped = new ≡ record old { pass = now_knowing old.pass (emptied (mine old.pass)); begun = None }
+DoesOpen cache old new call (acts.Call other) forms.Order = new ≡ old
+DoesOpen cache old new call (acts.Begin other) forms.Order = new ≡ old
+DoesOpen cache old new call act form = ⊥
+
+-- what an act does, with the handle that is open or without
+abbrev pub Does : {D : Type 0} → CacheParameters → CoreState D → CoreState D → Option Call → Act → Form → Type 0
+Does cache old new None act form = DoesIdle cache old new act form
+Does cache old new (Some call) act form = DoesOpen cache old new call act form
+
+-- the core without the handle that was open, which gave back what it took
+abbrev pub without_handle : {D : Type 0} → CoreState D → CoreState D
+without_handle c = record c { pass = now_knowing c.pass (emptied (mine c.pass)); begun = None }
+
+-- the cores but for the one at a place
+abbrev pub others_than : {D : Type 0} → ℕ → List (CoreState D) → List (CoreState D)
+others_than at cores = take at cores ++ drop (at + 1) cores
+
+-- a core that has met all others of a list
+abbrev pub met_all : {D : Type 0} → ℕ → List (CoreState D) → CoreState D → CoreState D
+met_all at cores c = record c { pass = gathered c.pass (passes_of (others_than at cores)) }
+
+-- A line was answered on the core at a place: it met all others, the act was answered so, and it parted from them. The others are as
+-- they were, and the core knows of no core but its own.
+pub record IsAnswered {D : Type 0} (cache : CacheParameters) (old new : List (CoreState D)) (at : ℕ) (act : Act) (form : Form) : Type 0 where
+  pub core : CoreState D
+  pub at_place : slice_get old at ≡ Some core
+  pub after : CoreState D
+  pub does : Does cache (met_all at old core) after core.begun act form
+  pub cores : new ≡ slice_set old at (record after { pass = now_knowing core.pass (mine after.pass) })
+
+-- The cores after a line that ran out of memory: as they were, or without the handle that was open on the core at a place.
+abbrev pub IsLeftOff : {D : Type 0} → List (CoreState D) → List (CoreState D) → ℕ → Type 0
+IsLeftOff {D} old new at = (new ≡ old) ⊎ ((core : CoreState D) × (slice_get old at ≡ Some core) × (new ≡ slice_set old at (without_handle core)))

@@ -1,0 +1,5 @@
+pub mod Answering
+pub mod Gathering
+pub mod Laws
+pub mod Played
+pub mod Service

@@ -1,0 +1,139 @@
+//! What a line is answered on its core.
+
+ghost use Rattle.std.specs.Prelude.{◌≡◌, ◌≢◌, ◌⊎◌, ◌<◌, IfOk, IfSome, IsSome, OnErr, OnOk, None, Some, length, slice_get};
+ghost use Rattle.zj_script.specs.declared.line.Act.TheVariants as acts;
+ghost use Rattle.zj_script.specs.declared.answer.Form.TheVariants as forms;
+ghost use Rattle.zj_turns.specs.Passes.{left_of};
+ghost use Rattle.zj_core.specs.Core.{CoreState, IsOf, IsSteady};
+ghost use Rattle.zj_session.specs.Answering.{Does, DoesIdle, DoesOpen, IsAnswered, IsHandled, IsLeftOff, without_handle};
+ghost use Rattle.zj_session.specs.Service.{AreTogether};
+
+use crate::gathering::{meet_all, part_all};
+use std::alloc::AllocError;
+use zj_core::{BeginFault, CallFault, Core, Done, ShowsTree, StopFault, TakeFault};
+use zj_dev::Disk;
+use zj_script::{Act, Form};
+use zj_tree::Call;
+use zj_turns::Cache;
+
+/// Answers an act on its core, which knows what all cores know. `AllocError` leaves no handle open that was open before.
+fn answer_act<D: Disk>(
+    cache: &Cache<ShowsTree>,
+    core: &mut Core<D>,
+    act: &Act,
+) -> Result<Form, AllocError>
+    requires of { IsOf cache.now core.old }
+    requires handled { IsHandled act.now }
+    requires left { left_of core.old.pass ≢ 0 }
+    ensures does { IfOk result (Does cache.now core.old core.new core.old.begun act.now) }
+    ensures err { OnErr result ((core.new ≡ core.old) ⊎ (core.new ≡ without_handle core.old)) }
+{
+    match (act, core.open_handle()) {
+        (Act::Call(call), false) => make_call(cache, core, call),
+        (Act::Begin(call), false) => begin(core, call),
+        (Act::Take, true) => take(cache, core),
+        (Act::Stop, true) => stop(cache, core),
+        (Act::Drop, true) => {
+            core.drop_handle(cache);
+            Ok(Form::Dropped)
+        }
+        _ => Ok(Form::Order),
+    }
+}
+
+/// Makes a call on a core that has no handle.
+fn make_call<D: Disk>(
+    cache: &Cache<ShowsTree>,
+    core: &mut Core<D>,
+    call: &Call,
+) -> Result<Form, AllocError>
+    requires of { IsOf cache.now core.old }
+    requires idle { core.old.begun ≡ None }
+    requires left { left_of core.old.pass ≢ 0 }
+    ensures does { IfOk result (DoesIdle cache.now core.old core.new (acts.Call call.now)) }
+    ensures err { OnErr result (core.new ≡ core.old) }
+{
+    match core.call(cache, call) {
+        Ok(Done { ticket, reply }) => Ok(Form::Drew { ticket, reply }),
+        Err(CallFault::Busy { block, holder }) => Ok(Form::Busy { block, holder }),
+        Err(CallFault::Spent { .. }) => unreachable!(),
+        Err(CallFault::NoMemory) => Err(AllocError),
+    }
+}
+
+/// Begins a handle on a core that has none.
+fn begin<D: Disk>(core: &mut Core<D>, call: &Call) -> Result<Form, AllocError>
+    requires idle { core.old.begun ≡ None }
+    requires left { left_of core.old.pass ≢ 0 }
+    ensures begun { OnOk result (core.new ≡ record core.old { begun = Some call.now }) }
+    ensures form { IfOk result (λ form. form ≡ forms.Begun) }
+    ensures err { OnErr result (core.new ≡ core.old) }
+{
+    match core.begin(call) {
+        Ok(()) => Ok(Form::Begun),
+        Err(BeginFault::Spent { .. }) => unreachable!(),
+        Err(BeginFault::NoMemory) => Err(AllocError),
+    }
+}
+
+/// Takes the next block that the open handle needs.
+fn take<D: Disk>(cache: &Cache<ShowsTree>, core: &mut Core<D>) -> Result<Form, AllocError>
+    requires of { IsOf cache.now core.old }
+    requires open { IsSome core.old.begun }
+    ensures does { IfOk result (λ form. IfSome core.old.begun (λ call. DoesOpen cache.now core.old core.new call acts.Take form)) }
+    ensures err { OnErr result (core.new ≡ core.old) }
+{
+    match core.take(cache) {
+        Ok(Some(block)) => Ok(Form::Took { block: block.0 }),
+        Ok(None) => Ok(Form::Ready),
+        Err(TakeFault::Busy { block, holder }) => Ok(Form::Busy { block, holder }),
+        Err(TakeFault::NoMemory) => Err(AllocError),
+    }
+}
+
+/// Stops the open handle.
+fn stop<D: Disk>(cache: &Cache<ShowsTree>, core: &mut Core<D>) -> Result<Form, AllocError>
+    requires of { IsOf cache.now core.old }
+    requires open { IsSome core.old.begun }
+    ensures does { IfOk result (λ form. IfSome core.old.begun (λ call. DoesOpen cache.now core.old core.new call acts.Stop form)) }
+    ensures err { OnErr result (core.new ≡ without_handle core.old) }
+{
+    match core.stop(cache) {
+        Ok(Done { ticket, reply }) => Ok(Form::Drew { ticket, reply }),
+        Err(StopFault::Busy { block, holder }) => Ok(Form::Busy { block, holder }),
+        Err(StopFault::NoMemory) => {
+            core.drop_handle(cache);
+            Err(AllocError)
+        }
+    }
+}
+
+/// Answers an act on the core at a place: it meets all others, and parts from each once the act is done.
+///
+/// `AllocError` leaves the cores as they were, or a handle that was open there is dropped.
+pub fn answer_line<D: Disk>(
+    cache: &Cache<ShowsTree>,
+    cores: &mut [Core<D>],
+    at: usize,
+    act: &Act,
+) -> Result<Form, AllocError>
+    requires together { AreTogether cache.now cores.old }
+    requires below { at < length cores.old }
+    requires handled { IsHandled act.now }
+    requires left { (core : CoreState D) → slice_get cores.old at ≡ Some core → left_of core.pass ≢ 0 }
+    ensures answered { IfOk result (IsAnswered cache.now cores.old cores.new at act.now) }
+    ensures steady { (core : CoreState D) → slice_get cores.new at ≡ Some core → IsSteady core }
+    ensures err { OnErr result (IsLeftOff cores.old cores.new at) }
+{
+    let (front, rest) = cores.split_at_mut(at);
+    let Some((core, back)) = rest.split_first_mut() else {
+        unreachable!()
+    };
+    meet_all(cache, core, front);
+    meet_all(cache, core, back);
+    let form = answer_act(cache, core, act);
+    part_all(cache, core, front);
+    part_all(cache, core, back);
+    let _open = core.open_handle();
+    form
+}

@@ -1,0 +1,13 @@
+//! Laws of cores that answer lines, each the contract of a function that does nothing.
+
+ghost use Rattle.zj_session.specs.Laws.{AnswersAreRight, FitsFurther};
+
+/// Whatever a line is answered, the answer is right, and the cores go on to serve calls.
+pub fn answers_are_right()
+    ensures { AnswersAreRight }
+{}
+
+/// Lines and answers that fit a history go on to fit with one more.
+pub fn fits_further()
+    ensures { FitsFurther }
+{}
