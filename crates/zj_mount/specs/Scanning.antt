@@ -1,5 +1,5 @@
 -- The journals of an image as they are read, one after the other.
-use Rattle.std.specs.Prelude.{◌≡◌, ℕ, ◌<◌, List, length, None, IfSome, IsSomeAnd, MatchOption, slice_get, ⊤}
+use Rattle.std.specs.Prelude.{◌≡◌, ℕ, ◌<◌, true, List, length, None, IfSome, IsSomeAnd, MatchOption, slice_get, ⊤}
 use Rattle.zj_dev.specs.Fault.{Rose}
 use Rattle.zj_dev.specs.Disk.{DiskView, OnlyReads}
 use Rattle.zj_dev.specs.declared.device.Device.TheVariants as devices
@@ -12,6 +12,14 @@ use Rattle.zj_mount.specs.declared.fault.MountFault.TheVariants as faults
 -- each area is there still, and its device was only read
 abbrev pub AreRead : {D : Type 0} → (D → DiskView) → List (AreaView D) → List (AreaView D) → Type 0
 AreRead view old new = (core : ℕ) → MatchOption (slice_get old core) (slice_get new core ≡ None) (λ a. IsSomeAnd (slice_get new core) (λ b. OnlyReads (view a.device) (view b.device)))
+
+-- an area that was read: it is ready, and as it was but for its device and where its records end
+abbrev pub IsNowReady : {D : Type 0} → AreaView D → AreaView D → Type 0
+IsNowReady old new = new ≡ record old { device = new.device; ready = true; end = new.end }
+
+-- the first areas, so many, were read
+abbrev pub AreReady : {D : Type 0} → List (AreaView D) → List (AreaView D) → ℕ → Type 0
+AreReady old new many = (core : ℕ) → core < many → IsSomeAnd (slice_get old core) (λ a. IsSomeAnd (slice_get new core) (IsNowReady a))
 
 -- the device of an area holds these records
 abbrev pub AreaHolds : {D : Type 0} → (D → DiskView) → AreaView D → List Record → Type 0

@@ -13,7 +13,7 @@ ghost use Rattle.zj_dev.specs.declared.device.Device.TheVariants as devices;
 ghost use Rattle.zj_mount.specs.declared.fault.MountFault.TheVariants as faults;
 ghost use Rattle.zj_mount.specs.Mounting.{AreEmpty, AreInOrder, HasTree, IsHomeCause, IsMountCause, IsUsedCause};
 ghost use Rattle.zj_mount.specs.Recovered.{empty_from};
-ghost use Rattle.zj_mount.specs.Scanning.{AreRead};
+ghost use Rattle.zj_mount.specs.Scanning.{AreRead, AreReady};
 
 use crate::areas::Areas;
 use crate::fault::MountFault;
@@ -47,6 +47,9 @@ pub fn mount<D: Disk>(
     ensures limits { IfOk result (λ recovered. recovered.tree.limits ≡ limits_of home.old.told.sizes) }
     ensures tree { IfOk result (λ recovered. HasTree D.view home.old.told home.old.device areas.old.areas recovered.tree.tree) }
 
+    // The areas are then ready.
+    ensures ready { OnOk result (AreReady areas.old.areas areas.new.areas (length areas.old.areas)) }
+
     // Or why nothing was.
     ensures cause { IfErr result (IsMountCause D.view home.old.told home.old.device home.new.device areas.old.areas areas.new.areas) }
 
@@ -67,6 +70,7 @@ pub fn mount<D: Disk>(
 fn refuse_used<D: Disk>(alloc: Global, areas: &mut Areas<D>) -> Result<(), MountFault>
     requires { length areas.old.areas ≤ MAX_CORES }
     ensures empty { OnOk result (AreEmpty D.view areas.old.areas (length areas.old.areas)) }
+    ensures ready { OnOk result (AreReady areas.old.areas areas.new.areas (length areas.old.areas)) }
     ensures cause { IfErr result (IsUsedCause D.view areas.old.areas areas.new.areas) }
     ensures read { AreRead D.view areas.old.areas areas.new.areas }
     ensures count { length areas.new.areas ≡ length areas.old.areas }
@@ -79,6 +83,7 @@ fn refuse_used<D: Disk>(alloc: Global, areas: &mut Areas<D>) -> Result<(), Mount
 fn read_empty<D: Disk>(alloc: Global, areas: &mut [Area<D>]) -> Result<(), MountFault>
     requires { length areas.old ≤ MAX_CORES }
     ensures empty { OnOk result (AreEmpty D.view areas.old (length areas.old)) }
+    ensures ready { OnOk result (AreReady areas.old areas.new (length areas.old)) }
     ensures cause { IfErr result (IsUsedCause D.view areas.old areas.new) }
     ensures read { AreRead D.view areas.old areas.new }
 {

@@ -3,7 +3,7 @@
 ghost use Rattle.std.specs.Prelude.{◌≡◌, ◌≤◌, [], IfOk, IfErr, OnOk, length};
 ghost use Rattle.zj_block.specs.declared.sizes.TheConstants.{MAX_CORES};
 ghost use Rattle.zj_dev.specs.Disk.{OnlyReads};
-ghost use Rattle.zj_mount.specs.Scanning.{AreCounted, AreRead, HoldsSome, IsAreaCause, StopsAt};
+ghost use Rattle.zj_mount.specs.Scanning.{AreCounted, AreRead, AreReady, HoldsSome, IsAreaCause, IsNowReady, StopsAt};
 
 use crate::fault::MountFault;
 use zj_area::{Area, ScanFault};
@@ -12,6 +12,7 @@ use zj_dev::{Device, Disk};
 /// How many records the journal of a core holds.
 fn scan_one<D: Disk>(area: &mut Area<D>, core: u32) -> Result<usize, MountFault>
     ensures count { IfOk result (HoldsSome D.view area.old) }
+    ensures ready { OnOk result (IsNowReady area.old area.new) }
     ensures read { OnlyReads (D.view area.old.device) (D.view area.new.device) }
     ensures cause { IfErr result (IsAreaCause D.view core area.old area.new) }
 {
@@ -42,6 +43,7 @@ pub fn scan_all<D: Disk>(areas: &mut [Area<D>], counts: &mut Vec<usize>) -> Resu
     requires none { counts.old.items ≡ [] }
     ensures counted { OnOk result (AreCounted D.view areas.old counts.new.items (length areas.old)) }
     ensures many { OnOk result (length counts.new.items ≡ length areas.old) }
+    ensures ready { OnOk result (AreReady areas.old areas.new (length areas.old)) }
     ensures read { AreRead D.view areas.old areas.new }
     ensures cause { IfErr result (StopsAt D.view areas.old areas.new counts.new.items) }
 {

@@ -6,3 +6,11 @@ pub returns-clause-read : goal.returns-clause-read
 returns-clause-read g c =
     let many = c.read_empty.auto.areas ∙ ap length c.slice_mut.ensures.value in
     subst (λ areas. AreRead g.D.Disk.view c.args.areas.now.areas areas) (sym (c.slice_mut.ensures.same_len c.read_empty.new.areas many)) (rw c.slice_mut.ensures.value at c.read_empty.ensures.read)
+
+pub returns-clause-ready : goal.returns-clause-ready
+returns-clause-ready g c =
+    let many = c.read_empty.auto.areas ∙ ap length c.slice_mut.ensures.value in
+    elim c.read_empty.result [
+      | Ok x ↦ ?
+      | Err fault ↦ ?
+    ]

@@ -1,0 +1,252 @@
+//! Cores over one cache: step by step, refused by each other, and on threads of their own.
+
+ghost use Rattle.std.specs.Prelude.{◌≡◌, ◌≢◌, IfOk, IsSome, None, false};
+ghost use Rattle.zj_turns.specs.Passes.{IsIdle, IsPeer};
+ghost use Rattle.zj_core.specs.Core.{CoreState, IsOf};
+
+use super::*;
+use std::alloc::Global;
+use std::test::Fail;
+use std::thread::{Threads, join};
+use zj_area::Area;
+use zj_block::{BlockNo, Sizes, Tail};
+use zj_dev::MemDisk;
+use zj_layout::format;
+use zj_tree::{Call, Path, Reply};
+use zj_turns::{Cache, Pass};
+
+/// How long a journal is.
+const AREA: u64 = 131_072;
+
+/// How many calls each of two cores makes on threads.
+const MANY: u32 = 100;
+
+/// A core of a pass that was just dealt, with an empty journal.
+fn core_of(alloc: Global, pass: Pass<ShowsTree>, sizes: &Sizes) -> Result<Core<MemDisk>, Fail>
+    requires { IsIdle pass.table pass.core pass }
+    ensures { IfOk result (λ core. (core.pass ≡ pass) × (core.sizes ≡ sizes.now) × (core.begun ≡ None)) }
+{
+    let core = pass.core();
+    if core >= sizes.cores() {
+        return Err("a core of the image".into());
+    }
+    let zeros = [0u8; AREA as usize];
+    let disk = MemDisk::new(alloc, &zeros, &[], None)?;
+    if sizes.area() != AREA {
+        return Err("the area's length".into());
+    }
+    let tail = Tail {
+        place: 0,
+        number: 0,
+    };
+    let Ok(mut area) = Area::open(alloc, disk, core, sizes, tail) else {
+        return Err("memory".into());
+    };
+    let Ok(_) = area.scan() else {
+        return Err("a journal of zeros".into());
+    };
+    match Core::new(alloc, pass, area, sizes) {
+        Ok(core) => Ok(core),
+        Err(_) => Err("memory".into()),
+    }
+}
+
+/// Two cores over a cache of a new image.
+#[derive(Drop)]
+struct Two {
+    cache: Cache<ShowsTree>,
+    one: Core<MemDisk>,
+    two: Core<MemDisk>,
+}
+
+fn two_cores(alloc: Global) -> Result<Two, Fail>
+    ensures one { IfOk result (λ made. IsOf made.cache made.one × (made.one.begun ≡ None)) }
+    ensures two { IfOk result (λ made. IsOf made.cache made.two × (made.two.begun ≡ None)) }
+    ensures peers { IfOk result (λ made. IsPeer made.one.pass made.two.pass false × IsPeer made.two.pass made.one.pass false) }
+{
+    let sizes = Sizes::new(1, 32, 16, 2, AREA).ok_or("sizes")?;
+    let blocks = format(alloc, &sizes)?;
+    let (cache, mut passes) = Cache::<ShowsTree>::new(alloc, &sizes, &blocks, 2)?;
+    let (Some(one), Some(two)) = (passes.next(), passes.next()) else {
+        return Err("two passes".into());
+    };
+    Ok(Two {
+        cache,
+        one: core_of(alloc, one, &sizes)?,
+        two: core_of(alloc, two, &sizes)?,
+    })
+}
+
+fn mkdir(alloc: Global, text: &[u8]) -> Result<Call, Fail> {
+    let path = Path::parse(alloc, text)?.ok_or("a path")?;
+    Ok(Call::Mkdir { path })
+}
+
+fn stat(alloc: Global, text: &[u8]) -> Result<Call, Fail> {
+    let path = Path::parse(alloc, text)?.ok_or("a path")?;
+    Ok(Call::Stat { path })
+}
+
+/// Takes the blocks that the open handle needs, at most 16, and answers how many those were.
+fn take_rest(cache: &Cache<ShowsTree>, core: &mut Core<MemDisk>) -> u32
+    requires of { IsOf cache.now core.old }
+    requires open { IsSome core.old.begun }
+    ensures of { IsOf cache.now core.new }
+    ensures open { core.new.begun ≡ core.old.begun }
+{
+    for count in 0..16 {
+        let Ok(Some(_)) = core.take(cache) else {
+            return count;
+        };
+    }
+    16
+}
+
+/// A handle takes its blocks one by one and is stopped. Answers how many those were.
+fn by_steps(
+    cache: &Cache<ShowsTree>,
+    core: &mut Core<MemDisk>,
+    call: &Call,
+) -> (u32, Result<Done, StopFault>)
+    requires of { IsOf cache.now core.old }
+    requires idle { core.old.begun ≡ None }
+{
+    match core.begin(call) {
+        Ok(()) => {
+            let count = take_rest(cache, core);
+            (count, core.stop(cache))
+        }
+        Err(_) => (0, Err(StopFault::NoMemory)),
+    }
+}
+
+/// What two cores were answered, of which the first has a handle open when the second meets it.
+#[derive(Debug, PartialEq, Drop)]
+struct Meeting {
+    took: Option<u32>,
+    away: (bool, bool),
+    refused: Result<Done, CallFault>,
+    dropped: bool,
+    made: Result<Done, CallFault>,
+}
+
+/// A handle of the first core takes a block; the second core meets it, makes the same call, and parts. Then the handle is
+/// dropped, and the second core makes its call.
+fn meets(
+    cache: &Cache<ShowsTree>,
+    one: &mut Core<MemDisk>,
+    two: &mut Core<MemDisk>,
+    call: &Call,
+) -> Option<Meeting>
+    requires one { IsOf cache.now one.old }
+    requires two { IsOf cache.now two.old }
+    requires idle { (one.old.begun ≡ None) × (two.old.begun ≡ None) }
+    requires peer { IsPeer two.old.pass one.old.pass false }
+{
+    if one.begin(call).is_err() {
+        return None;
+    }
+    let took = match one.take(cache) {
+        Ok(Some(block)) => Some(block.0),
+        _ => None,
+    };
+    two.meet(cache, one);
+    let away = (one.away(), two.away());
+    let refused = two.call(cache, call);
+    two.part(cache, one);
+    one.drop_handle(cache);
+    Some(Meeting {
+        took,
+        away,
+        refused,
+        dropped: !one.open_handle(),
+        made: two.call(cache, call),
+    })
+}
+
+/// Makes a call until it was made so often, and tries again where another core has a block. Answers how often it was made.
+fn call_many(cache: &Cache<ShowsTree>, mut core: Core<MemDisk>, call: &Call) -> (Core<MemDisk>, u32)
+    requires of { IsOf cache.now core }
+    requires idle { core.begun ≡ None }
+    ensures of { IsOf cache.entry.now result.0 }
+    ensures idle { result.0.begun ≡ None }
+{
+    let mut made = 0;
+    for _ in 0..u32::MAX {
+        if made == MANY {
+            break;
+        }
+        if core.call(cache, call).is_ok() {
+            made += 1;
+        }
+    }
+    (core, made)
+}
+
+/// Each core makes its calls in a thread of its own. Answers how often each call was made.
+fn on_threads<R: Threads + Sync>(rt: &R, made: Two, one: &Call, two: &Call) -> (u32, u32)
+    requires one { IsOf made.cache made.one × (made.one.begun ≡ None) }
+    requires two { IsOf made.cache made.two × (made.two.begun ≡ None) }
+{
+    let Two {
+        cache,
+        one: first,
+        two: second,
+    } = made;
+    let shared = &cache;
+    let ((first, some), (second, others)) = join(
+        rt,
+        move || -> (Core<MemDisk>, u32)
+            requires { IsOf shared.now first × (first.begun ≡ None) }
+            ensures { result.0.begun ≡ None }
+        { call_many(shared, first, one) },
+        move || -> (Core<MemDisk>, u32)
+            requires { IsOf shared.now second × (second.begun ≡ None) }
+            ensures { result.0.begun ≡ None }
+        { call_many(shared, second, two) },
+    );
+    let _closed = (first.close(), second.close());
+    (some, others)
+}
+
+#[test]
+fn a_handle_by_steps(rt: HostRuntime) -> Result<(), Fail> {
+    let alloc = rt.alloc();
+    let mut made = two_cores(alloc)?;
+    assert_eq!(rt; (made.one.core(), made.one.number(), made.one.left()), (0, 0, 4_294_967_295));
+    let (count, done) = by_steps(&made.cache, &mut made.one, &mkdir(alloc, b"/a")?);
+    let first = Done {
+        ticket: 0,
+        reply: Reply::Done,
+    };
+    assert_eq!(rt; (count, done), (3, Ok(first)));
+    assert_eq!(rt; (made.one.left(), made.one.open_handle()), (4_294_967_294, false));
+    Ok(())
+}
+
+#[test]
+fn one_core_is_refused_by_another(rt: HostRuntime) -> Result<(), Fail> {
+    let alloc = rt.alloc();
+    let mut made = two_cores(alloc)?;
+    let met = meets(&made.cache, &mut made.one, &mut made.two, &mkdir(alloc, b"/a")?);
+    assert_eq!(rt; met, Some(Meeting {
+        took: Some(1),
+        away: (true, false),
+        refused: Err(CallFault::Busy { block: 1, holder: 0 }),
+        dropped: true,
+        made: Ok(Done {
+            ticket: 0,
+            reply: Reply::Done,
+        }),
+    }));
+    Ok(())
+}
+
+#[test]
+fn two_cores_call_on_two_threads(rt: HostRuntime) -> Result<(), Fail> {
+    let alloc = rt.alloc();
+    let made = two_cores(alloc)?;
+    let (one, two) = (mkdir(alloc, b"/a")?, stat(alloc, b"/a")?);
+    assert_eq!(rt; on_threads(&rt, made, &one, &two), (MANY, MANY));
+    Ok(())
+}
