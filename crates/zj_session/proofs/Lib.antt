@@ -1,0 +1,10 @@
+pub mod Contents
+pub mod Growing
+pub mod Handles
+pub mod Lists
+pub mod Outcomes
+pub mod Right
+pub mod Roots
+pub mod Serving
+pub mod Steps
+pub mod Views

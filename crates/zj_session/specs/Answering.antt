@@ -5,7 +5,7 @@ use Rattle.zj_script.specs.declared.line.Act.{Act}
 use Rattle.zj_script.specs.declared.line.Act.TheVariants as acts
 use Rattle.zj_script.specs.declared.answer.Form.{Form}
 use Rattle.zj_script.specs.declared.answer.Form.TheVariants as forms
-use Rattle.zj_turns.specs.Passes.{CacheParameters, PassState, mine, now_knowing}
+use Rattle.zj_turns.specs.Passes.{CacheParameters, mine, now_knowing}
 use Rattle.zj_core.specs.Handle.{TakesFor}
 use Rattle.zj_core.specs.Steps.{TakesMore, emptied}
 use Rattle.zj_core.specs.declared.fault.TakeFault.TheVariants as takes
