@@ -1,0 +1,4 @@
+pub mod Acts
+pub mod Moving
+pub mod Seen
+pub mod Together

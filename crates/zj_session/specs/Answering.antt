@@ -5,7 +5,7 @@ use Rattle.zj_script.specs.declared.line.Act.{Act}
 use Rattle.zj_script.specs.declared.line.Act.TheVariants as acts
 use Rattle.zj_script.specs.declared.answer.Form.{Form}
 use Rattle.zj_script.specs.declared.answer.Form.TheVariants as forms
-use Rattle.zj_turns.specs.Passes.{CacheParameters, PassState, mine, now_knowing}
+use Rattle.zj_turns.specs.Passes.{CacheParameters, mine, now_knowing}
 use Rattle.zj_core.specs.Handle.{TakesFor}
 use Rattle.zj_core.specs.Steps.{TakesMore, emptied}
 use Rattle.zj_core.specs.declared.fault.TakeFault.TheVariants as takes
@@ -54,6 +54,10 @@ Does cache old new (Some call) act form = DoesOpen cache old new call act form
 -- the core without the handle that was open, which gave back what it took
 abbrev pub without_handle : {D : Type 0} → CoreState D → CoreState D
 without_handle c = record c { pass = now_knowing c.pass (emptied (mine c.pass)); begun = None }
+
+-- what it does changes no more of a core than what that knows of itself and its handle
+abbrev pub OnlyOwn : {D : Type 0} → CoreState D → CoreState D → Type 0
+OnlyOwn old new = new ≡ record old { pass = now_knowing old.pass (mine new.pass); begun = new.begun }
 
 -- the cores but for the one at a place
 abbrev pub others_than : {D : Type 0} → ℕ → List (CoreState D) → List (CoreState D)

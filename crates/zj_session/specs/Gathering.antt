@@ -1,5 +1,5 @@
 -- One core that meets all others, and parts from them.
-use Rattle.std.specs.Prelude.{◌≡◌, ◌≢◌, ℕ, ◌<◌, Bool, true, false, List, [], ◌∷◌, ◌++◌, map, length}
+use Rattle.std.specs.Prelude.{◌≢◌, Bool, List, [], ◌∷◌, map}
 use Rattle.std.specs.List.{All, AllPairs}
 use Rattle.zj_turns.specs.Views.{joined, without}
 use Rattle.zj_turns.specs.Passes.{IsPeer, PassState, with_away, with_view}
