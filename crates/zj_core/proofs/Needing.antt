@@ -1,5 +1,5 @@
 -- What performing a call over the blocks that were taken says of a pass that holds them.
-use Rattle.std.proofs.Common.{◌≡◌, ◌≢◌, ◌⊎◌, inl, inr, ⊎_elim, ℕ, ◌<◌, ◌==◌, Bool, true, false, true≢false, cond, eqb, eq-eqb, ne_eqb, is_some, List, [], ◌∷◌, ◌++◌, length, map, take, Option, Some, None, IsSome, refl, sym, ap, ◌∙◌, subst, arith}
+use Rattle.std.proofs.Common.{◌≡◌, ◌≢◌, ◌⊎◌, inl, inr, ⊎_elim, ℕ, ◌==◌, Bool, true, false, true≢false, cond, eqb, eq-eqb, ne_eqb, is_some, List, [], ◌∷◌, map, take, Option, Some, None, IsSome, refl, sym, ap, ◌∙◌, subst}
 use Rattle.std.specs.Option.{option_map}
 use Rattle.std.specs.Prelude.{find}
 use Rattle.std.specs.Ordering.{nat_cmp, eq_by_cmp}
@@ -53,6 +53,9 @@ held_under k b = held_find (finmap.entries k.held) b ∙ ap (option_map (λ (h :
 module _ (sizes : Numbers) (found other : Entries) (same : (b : ℕ) → content_under other b ≡ content_under found b) where
   possible_same : (state : State) (tree : FileTree) → IsPossible sizes other state tree → IsPossible sizes found state tree
   possible_same state tree p = record { shows = p.shows; agrees = λ b c e. p.agrees b c (same b ∙ e) }
+
+  pub part_same : IsPartOfSome sizes other → IsPartOfSome sizes found
+  part_same some = record { state = some.state; tree = some.tree; possible = possible_same some.state some.tree some.possible }
 
   pub always_same : (P : Image → Type 0) → Always sizes found P → Always sizes other P
   always_same P always state tree p = always state tree (possible_same state tree p)
@@ -124,12 +127,15 @@ module _ (sizes : Numbers) (found : Entries) (call : Call) where
   pub done_root : (o : Outcome) (reply : Reply) (written : Changes) → o ≡ outcomes.Done reply written → IsRootFirst sizes found o → content_under found (root_block sizes) ≢ None
   done_root o reply written is first none = subst (IsRootFirst sizes found) is first none
 
-  pub root_taken : (o : Outcome) (reply : Reply) (written : Changes) → o ≡ outcomes.Done reply written → IsRootFirst sizes found o → IsSome (content_under found (root_block sizes))
-  root_taken o reply written is first = by (content_under found (root_block sizes)) refl
+  pub root_some : content_under found (root_block sizes) ≢ None → IsSome (content_under found (root_block sizes))
+  root_some there = by (content_under found (root_block sizes)) refl
     where
       by : (x : Option (List ℕ)) → content_under found (root_block sizes) ≡ x → IsSome x
-      by None e = absurd (done_root o reply written is first e)
+      by None e = absurd (there e)
       by (Some c) e = refl
+
+  pub root_taken : (o : Outcome) (reply : Reply) (written : Changes) → o ≡ outcomes.Done reply written → IsRootFirst sizes found o → IsSome (content_under found (root_block sizes))
+  root_taken o reply written is first = root_some (done_root o reply written is first)
 
   pub never_odd : IsBegun sizes found → (o : Outcome) → o ≡ outcomes.Odd → OutcomeSays sizes found call o → IsRootFirst sizes found o → ⊥
   never_odd begun o is says first = ⊎_elim
@@ -142,13 +148,17 @@ module _ (sizes : Numbers) (found : Entries) (call : Call) where
 
 -- ---- more and more is taken
 
+-- a block is held with the content that it was held with before
+pub held_more : (k l : Known) → HoldsMore k l → (b : ℕ) (c : List ℕ) → content_held k b ≡ Some c → content_held l b ≡ Some c
+held_more k l more b c = by (finmap.get k.held b) refl
+  where
+    by : (o : Option Hold) → finmap.get k.held b ≡ o → option_map (λ (h : Hold). take 64 h.loaded) o ≡ Some c → content_held l b ≡ Some c
+    by None is e = absurd cc
+    by (Some h) is e = ap (option_map (λ (h : Hold). take 64 h.loaded)) (more.kept b h is) ∙ e
+
 -- what is always so of states that have some blocks is so of those that have more
 pub always_more : (sizes : Numbers) (p q : PassState) (found : Entries) → ((b : ℕ) → content_under found b ≡ content_held (mine p) b) → HoldsMore (mine p) (mine q) → (P : Image → Type 0) → Always sizes found P → Always sizes (entries_held (mine q)) P
-always_more sizes p q found same more P always state tree possible = always state tree (record { shows = possible.shows; agrees = λ b c e. possible.agrees b c (held_under (mine q) b ∙ by b c (finmap.get (mine p).held b) refl (sym (same b) ∙ e)) })
-  where
-    by : (b : ℕ) (c : List ℕ) (o : Option Hold) → finmap.get (mine p).held b ≡ o → option_map (λ (h : Hold). take 64 h.loaded) o ≡ Some c → content_held (mine q) b ≡ Some c
-    by b c None is e = absurd cc
-    by b c (Some h) is e = ap (option_map (λ (h : Hold). take 64 h.loaded)) (more.kept b h is) ∙ e
+always_more sizes p q found same more P always state tree possible = always state tree (record { shows = possible.shows; agrees = λ b c e. possible.agrees b c (held_under (mine q) b ∙ held_more (mine p) (mine q) more b c (sym (same b) ∙ e)) })
 
 module _ (cache : CacheParameters) (sizes : Numbers) (p q r : PassState) (call : Call) (then : TakesMore cache q r) where
   -- blocks taken before and one block more

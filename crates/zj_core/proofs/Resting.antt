@@ -1,5 +1,5 @@
 -- What a core keeps: it is made, it rests between two calls, and its handle is dropped.
-use Rattle.std.proofs.Common.{◌≡◌, ◌≢◌, ◌⊎◌, inl, ⊎_elim, ℕ, ◌-◌, true, false, true≢false, cond, is_some, List, [], ◌∷◌, take, Option, Some, None, refl, sym, ap, ◌∙◌, subst}
+use Rattle.std.proofs.Common.{◌≡◌, ◌≢◌, inl, ⊎_elim, ℕ, true, false, true≢false, cond, is_some, List, [], ◌∷◌, take, Option, Some, None, IsSome, refl, sym, ap, ◌∙◌, subst}
 use Rattle.std.specs.Option.{option_map}
 use Rattle.std.specs.Ordering.{nat_cmp}
 use Rattle.std.specs.FinMap as finmap
@@ -8,16 +8,17 @@ use Rattle.zj_block.specs.Sizes.{Numbers}
 use Rattle.zj_area.specs.Journal.{AreaView}
 use Rattle.zj_layout.proofs.Follow.{none_some}
 use Rattle.zj_turns.specs.Views.{Has, Hold, Known}
-use Rattle.zj_turns.specs.Passes.{IsIdle, PassState, mine, now_knowing}
+use Rattle.zj_turns.specs.Passes.{IsIdle, PassState, holds, mine, now_knowing}
 use Rattle.zj_turns.proofs.Lone.{lone_is}
 use Rattle.zj_turns.proofs.Maps.{get_here}
 use Rattle.zj_core.specs.declared.handles.Handle.{Handle}
 use Rattle.zj_core.specs.Core.{CoreState, IsCore, IsReady, IsSteady, taken_by}
-use Rattle.zj_core.specs.Handle.{HasTaken, root_block}
+use Rattle.zj_core.specs.Handle.{HasTaken, IsPartOfSome, entries_held, root_block}
 use Rattle.zj_core.specs.Steps.{emptied, given_back}
 use Rattle.zj_core.proofs.Finished.{root_held}
 use Rattle.zj_core.proofs.Given.{given_clear, given_get, given_number, given_operations, given_ticket}
 use Rattle.zj_core.proofs.Knowing.{has_now, mine_is, none_there}
+use Rattle.zj_core.proofs.Needing.{held_under, part_same}
 use Rattle.zj_core.proofs.Taking.{not_held}
 
 -- a core that holds nothing has taken nothing
@@ -65,11 +66,18 @@ module _ {D : Type 0} (p : PassState) (area : AreaView D) (sizes : Numbers) (han
     read = keeps.has.read;
     idle = λ none. none_there (mine p).held (λ b. not_held sizes p (taken_by handle) keeps.has b (by handle b none));
     root = λ b there. ⊎_elim
-        (λ empty. absurd (true≢false (sym there ∙ ap is_some (not_held sizes p (taken_by handle) keeps.has b (ap (λ found. content_under found b) empty)))))
+        (λ empty. absurd (nothing b there empty))
         (λ begun. root_held sizes p (taken_by handle) keeps.has (λ empty. true≢false (sym begun.0 ∙ ap (λ found. is_some (content_under found (root_block sizes))) empty)))
+        keeps.has.begun;
+    possible = λ b there. ⊎_elim
+        (λ empty. absurd (nothing b there empty))
+        (λ (begun : IsSome (content_under (taken_by handle) (root_block sizes)) × IsPartOfSome sizes (taken_by handle)). part_same sizes (entries_held (mine p)) (taken_by handle) (λ c. keeps.has.same c ∙ sym (held_under (mine p) c)) begun.1)
         keeps.has.begun;
   }
     where
+      nothing : (b : ℕ) → holds p b ≡ true → taken_by handle ≢ []
+      nothing b there empty = true≢false (sym there ∙ ap is_some (not_held sizes p (taken_by handle) keeps.has b (ap (λ found. content_under found b) empty)))
+
       by : (handle : Option Handle) (b : ℕ) → option_map (λ (h : Handle). h.call) handle ≡ None → content_under (taken_by handle) b ≡ None
       by None b none = refl
       by (Some h) b none = absurd (none_some (sym none))

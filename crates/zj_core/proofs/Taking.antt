@@ -1,5 +1,5 @@
 -- One block that a pass takes and loads.
-use Rattle.std.proofs.Common.{◌≡◌, ◌≢◌, ◌⊎◌, ◌↔◌, inl, inr, ⊎_elim, ℕ, ◌+◌, ◌<◌, ◌==◌, Bool, true, false, true≢false, cond, eqb, eqb-true, eq-eqb, ne_eqb, is_some, List, [], ◌∷◌, ◌++◌, length, length-append, take, Option, Some, None, IsNone, IsSome, refl, sym, ap, ◌∙◌, subst, arith}
+use Rattle.std.proofs.Common.{◌≡◌, ◌≢◌, ◌⊎◌, inl, inr, ⊎_elim, ℕ, ◌==◌, Bool, true, false, true≢false, cond, eqb, eq-eqb, ne_eqb, is_some, List, [], ◌∷◌, ◌++◌, length, length-append, take, Option, Some, None, IsSome, refl, sym, ap, ◌∙◌, subst, arith}
 use Rattle.std.specs.Option.{option_map}
 use Rattle.std.specs.Prelude.{slice_get}
 use Rattle.std.specs.Ordering.{nat_cmp}
@@ -11,14 +11,13 @@ use Rattle.zj_block.specs.Lists.{Entries, content_under}
 use Rattle.zj_block.specs.Sizes.{Numbers}
 use Rattle.zj_block.specs.declared.numbers.Writer.{Writer}
 use Rattle.zj_layout.specs.Shows.{ShowsSome}
-use Rattle.zj_turns.specs.Views.{Has, Hold, Known, hold_in, holding, giving, knowing, loaded_as, seal_of, taken as just_taken}
+use Rattle.zj_turns.specs.Views.{Hold, Known, hold_in, holding, giving, loaded_as, seal_of, taken as just_taken}
 use Rattle.zj_turns.specs.Passes.{CacheParameters, PassState, SomeStateAgrees, hold_of, holds, mine, now_knowing}
 use Rattle.zj_turns.proofs.Maps.{get_here, get_else}
-use Rattle.zj_turns.proofs.Seats.{known_of}
-use Rattle.zj_turns.proofs.Again.{insert_again, insert_same, remove_new}
+use Rattle.zj_turns.proofs.Again.{insert_again, remove_new}
 use Rattle.zj_core.proofs.Knowing.{has_now, knowing_again, knowing_same, mine_now}
 use Rattle.zj_core.specs.Handle.{HasTaken, IsPartOfSome, IsRead, content_held, root_block}
-use Rattle.zj_core.specs.Steps.{HoldsMore, IsFree, Knows, TakesMore}
+use Rattle.zj_core.specs.Steps.{IsFree, Knows, TakesMore}
 
 pub holding_again : (k : Known) (b : ℕ) (h h' : Hold) → holding (holding k b h) b h' ≡ holding k b h'
 holding_again k b h h' = ap (λ m. record { operations = k.operations; held = m; drawn = k.drawn; ticket = k.ticket; number = k.number }) (insert_again k.held b h h')

@@ -1,18 +1,16 @@
 -- A core as its callers see it.
-use Rattle.std.specs.Prelude.{◌≡◌, ◌≢◌, ◌⊎◌, ◌↔◌, ℕ, ◌-◌, ◌^◌, ◌<◌, ◌≤◌, Bool, true, false, List, [], length, Option, Some, None, IfSome, IsSome, ⊤}
+use Rattle.std.specs.Prelude.{◌≡◌, ◌≢◌, ◌⊎◌, ℕ, true, false, List, [], length, Option, Some, None, IsSome, ⊤}
 use Rattle.std.specs.FinMap as finmap
-use Rattle.std.specs.Ordering.{nat_cmp}
 use Rattle.zj_block.specs.Lists.{Entries, content_under}
 use Rattle.zj_block.specs.Sizes.{Numbers}
 use Rattle.zj_area.specs.Journal.{AreaView}
 use Rattle.zj_history.specs.Operation.{Operation}
 use Rattle.zj_tree.specs.declared.call.Call.{Call}
-use Rattle.zj_tree.specs.declared.call.Reply.{Reply}
 use Rattle.zj_dirs.specs.Possible.{Always}
 use Rattle.zj_inode.specs.Footprint.{Foot}
 use Rattle.zj_inode.specs.Performs.{Performs}
 use Rattle.zj_inode.specs.Run.{contents_found}
-use Rattle.zj_turns.specs.Views.{Known, Hold}
+use Rattle.zj_turns.specs.Views.{Hold}
 use Rattle.zj_turns.specs.Passes.{CacheParameters, IsActive, PassState, holds, left_of, mine, now_knowing}
 use Rattle.zj_core.specs.Handle.{HasTaken, IsPartOfSome, IsPerformed, IsRead, NeedsNext, TakesFor, content_held, entries_held, root_block}
 use Rattle.zj_core.specs.Steps.{IsFree, IsMissed, Knows, TakesMore, with_operation}

@@ -1,16 +1,15 @@
 -- What taking, storing and giving do to a pass.
-use Rattle.std.specs.Prelude.{◌≡◌, ◌≢◌, ◌⊎◌, ℕ, ◌<◌, Bool, true, false, List, [], ◌∷◌, ◌++◌, length, Some, None, ⊤}
+use Rattle.std.specs.Prelude.{◌≡◌, ◌≢◌, ◌⊎◌, ℕ, ◌<◌, true, false, [], ◌∷◌, ◌++◌, Some, ⊤}
 use Rattle.std.specs.FinMap as finmap
 use Rattle.zj_block.specs.Lists.{Entries}
 use Rattle.zj_block.specs.Sizes.{Numbers}
-use Rattle.zj_history.specs.State.{BlockState}
 use Rattle.zj_history.specs.Operation.{Contents, Operation}
 use Rattle.zj_tree.specs.Tree.{FileTree}
 use Rattle.zj_layout.specs.Image.{State}
 use Rattle.zj_layout.specs.Shows.{ShowsSome, put_blocks}
 use Rattle.zj_dirs.specs.Possible.{IsPossible}
 use Rattle.zj_inode.specs.Run.{contents_found}
-use Rattle.zj_turns.specs.Views.{Hold, Known, hold_in, holding, giving, loaded_as, stored_as}
+use Rattle.zj_turns.specs.Views.{Hold, Known, hold_in, holding, giving, stored_as}
 use Rattle.zj_turns.specs.Passes.{CacheParameters, KnowsHistory, PassState, holds, mine, now_knowing}
 use Rattle.zj_core.specs.Handle.{entries_held}
 use Rattle.zj_core.specs.declared.fault.TakeFault.{TakeFault}

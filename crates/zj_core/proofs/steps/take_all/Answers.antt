@@ -1,11 +1,11 @@
 -- One block after the other is taken.
-use Rattle.std.proofs.Common.{◌<◌, ◌∙◌, ℕ, length, sym, subst, true≢false}
+use Rattle.std.proofs.Common.{◌<◌, ◌∙◌, ℕ, sym, subst, true≢false}
 use Rattle.std.proofs.lemmas.Result.{err_from_is_err_and}
 use Rattle.zj_block.specs.Sizes.{Numbers}
 use Rattle.zj_turns.specs.Passes.{PassState}
 use Rattle.zj_core.specs.Core.{IsTakeCause}
 use Rattle.zj_core.specs.Handle.{HasTaken, IsDue, TakesFor}
-use Rattle.zj_core.proofs.Needing.{for_call, is_due, missed_next, never_odd, takes_none, takes_then}
+use Rattle.zj_core.proofs.Needing.{for_call, is_due, missed_next, takes_none, takes_then}
 use Rattle.zj_core.proofs.steps.take_all.Goals as goal
 
 pub loop-block-init : goal.loop-block-init

@@ -1,6 +1,6 @@
 -- The block is taken and loaded; where there is no memory to remember it, it is given back.
-use Rattle.std.proofs.Common.{◌++◌, inl, false, ap, ◌∙◌}
-use Rattle.zj_turns.specs.Views.{Known, seal_of}
+use Rattle.std.proofs.Common.{◌++◌, inl}
+use Rattle.zj_turns.specs.Views.{seal_of}
 use Rattle.zj_core.proofs.Taking.{has_more, held_only, is_held, taken_clear, taken_held, taken_unstored, takes_more, two_steps, undone, unstored}
 use Rattle.zj_core.proofs.steps.take_block.Goals as goal
 

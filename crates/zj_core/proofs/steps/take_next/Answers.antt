@@ -1,10 +1,8 @@
 -- The block that is due is taken.
-use Rattle.std.proofs.Common.{Option, Err, sym, subst}
-use Rattle.std.specs.Prelude.{IfErr}
+use Rattle.std.proofs.Common.{Option, subst}
 use Rattle.std.specs.Option.{IfSome, IfNone}
 use Rattle.std.proofs.lemmas.Result.{err_from_is_err_and}
 use Rattle.zj_block.specs.declared.numbers.BlockNo.{BlockNo}
-use Rattle.zj_core.specs.Core.{IsTakeCause}
 use Rattle.zj_core.specs.Handle.{IsDue, IsPerformed}
 use Rattle.zj_core.proofs.Needing.{missed_next, needs_next, needs_no_more}
 use Rattle.zj_core.proofs.steps.take_next.Goals as goal
