@@ -55,6 +55,10 @@ Does cache old new (Some call) act form = DoesOpen cache old new call act form
 abbrev pub without_handle : {D : Type 0} → CoreState D → CoreState D
 without_handle c = record c { pass = now_knowing c.pass (emptied (mine c.pass)); begun = None }
 
+-- what it does changes no more of a core than what that knows of itself and its handle
+abbrev pub OnlyOwn : {D : Type 0} → CoreState D → CoreState D → Type 0
+OnlyOwn old new = new ≡ record old { pass = now_knowing old.pass (mine new.pass); begun = new.begun }
+
 -- the cores but for the one at a place
 abbrev pub others_than : {D : Type 0} → ℕ → List (CoreState D) → List (CoreState D)
 others_than at cores = take at cores ++ drop (at + 1) cores
