@@ -28,7 +28,7 @@ AnswersAreRight D = (cache : CacheParameters) (old new : List (CoreState D)) (pl
 
 -- Lines, answers and a history that fit go on to fit with one line more, where its answer is right.
 abbrev pub FitsFurther : Type 0
-FitsFurther = (sizes : Numbers) (start : BlockState) (played : List Played) (history later : List Operation) (core : ℕ) (line : Line) (form : Form)
-    → Fit sizes start played history → line.core ≡ Some core → IsLegal start later → GrowsWith history later form
+FitsFurther = (sizes : Numbers) (start : BlockState) (before : List Operation) (played : List Played) (history later : List Operation) (core : ℕ) (line : Line) (form : Form)
+    → Fit sizes start before played history → line.core ≡ Some core → IsLegal start later → GrowsWith history later form
     → IsRight sizes (after start history) later (length history) (handle_after played) core line.act form
-    → Fit sizes start (played ++ (line, form) ∷ []) later
+    → Fit sizes start before (played ++ (line, form) ∷ []) later

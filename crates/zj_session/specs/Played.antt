@@ -1,5 +1,5 @@
 -- What lines and their answers tell of the cores, and what each answer says of the history so far.
-use Rattle.std.specs.Prelude.{◌≡◌, ◌≢◌, ℕ, ◌==◌, Bool, true, false, List, [], ◌∷◌, ◌++◌, length, map, filter, fold, take, Option, Some, None, IfSome, slice_get, ⊤}
+use Rattle.std.specs.Prelude.{◌≡◌, ◌≢◌, ℕ, ◌+◌, ◌==◌, Bool, true, false, List, [], ◌∷◌, ◌++◌, length, map, filter, fold, take, Option, Some, None, IfSome, slice_get, ⊤}
 use Rattle.std.specs.Option.{option_map}
 use Rattle.zj_block.specs.Lists.{Entries}
 use Rattle.zj_block.specs.Sizes.{Numbers}
@@ -129,10 +129,11 @@ pub record IsRight (sizes : Numbers) (state : BlockState) (history : List Operat
   pub suited : form ≡ forms.Order → suits (handles core) act ≡ false
   pub busy : (block holder : ℕ) → suits (handles core) act ≡ true → takes_blocks act ≡ true → IsHeldBy sizes handles core block holder → IsBusy form
 
--- Lines, answers and one history fit: it is legal, its operations are those of the answers with a ticket, in their order, and each answer
--- is right after the operations of the lines before it.
-pub record Fit (sizes : Numbers) (start : BlockState) (played : List Played) (history : List Operation) : Type 0 where
+-- Lines, answers and one history fit, after a history that was before: it is legal, it goes on from there by the operations of the
+-- answers with a ticket, in their order, and each answer is right after the operations of the lines before it.
+pub record Fit (sizes : Numbers) (start : BlockState) (before : List Operation) (played : List Played) (history : List Operation) : Type 0 where
   pub legal : IsLegal start history
-  pub tickets : length history ≡ tickets_in played
+  pub goes_on : take (length before) history ≡ before
+  pub tickets : length history ≡ length before + tickets_in played
   pub each : (k core : ℕ) (p : Played) → slice_get played k ≡ Some p → p.0.core ≡ Some core
-      → IsRight sizes (after start (take (tickets_in (take k played)) history)) history (tickets_in (take k played)) (handle_after (take k played)) core p.0.act p.1
+      → IsRight sizes (after start (take (length before + tickets_in (take k played)) history)) history (length before + tickets_in (take k played)) (handle_after (take k played)) core p.0.act p.1

@@ -4,3 +4,12 @@
 mod answering;
 mod gathering;
 pub mod laws;
+mod playing;
+mod service;
+mod starting;
+mod transcript;
+
+pub use answering::answer_line;
+pub use playing::{Ended, Stopped, play};
+pub use service::Service;
+pub use transcript::Transcript;
