@@ -8,6 +8,7 @@ pub mod Outcomes
 pub mod Right
 pub mod Roots
 pub mod Seen
+pub mod Running
 pub mod Serving
 pub mod Steps
 pub mod Together
