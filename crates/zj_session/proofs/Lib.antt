@@ -1,4 +1,5 @@
 pub mod Acts
+pub mod Line
 pub mod Moving
 pub mod Seen
 pub mod Together
