@@ -1,5 +1,15 @@
 pub mod Acts
+pub mod Contents
+pub mod Growing
+pub mod Handles
 pub mod Line
+pub mod Lists
 pub mod Moving
+pub mod Outcomes
+pub mod Right
+pub mod Roots
 pub mod Seen
+pub mod Serving
+pub mod Steps
 pub mod Together
+pub mod Views

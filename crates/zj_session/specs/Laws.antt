@@ -1,5 +1,5 @@
 -- What is so of cores that answer lines.
-use Rattle.std.specs.Prelude.{◌≡◌, ℕ, List, [], ◌∷◌, ◌++◌, ◌+◌, cond, length, Some, slice_get}
+use Rattle.std.specs.Prelude.{◌≡◌, ℕ, List, [], ◌∷◌, ◌++◌, cond, length, Some, slice_get}
 use Rattle.zj_block.specs.Sizes.{Numbers}
 use Rattle.zj_history.specs.Operation.{Operation}
 use Rattle.zj_history.specs.State.{BlockState, after}
@@ -20,8 +20,8 @@ pub record GrowsWith (history later : List Operation) (form : Form) : Type 0 whe
 
 -- Whatever a line is answered on its core, the cores go on to serve calls, with one operation more where the answer has a ticket; and the
 -- answer is right.
-abbrev pub AnswersAreRight : Type 1
-AnswersAreRight = {D : Type 0} (cache : CacheParameters) (old new : List (CoreState D)) (played : List Played) (history : List Operation) (at : ℕ) (line : Line) (form : Form) (core : CoreState D)
+abbrev pub AnswersAreRight : Type 0 → Type 0
+AnswersAreRight D = (cache : CacheParameters) (old new : List (CoreState D)) (played : List Played) (history : List Operation) (at : ℕ) (line : Line) (form : Form) (core : CoreState D)
     → IsServing cache old played history → line.core ≡ Some at → slice_get new at ≡ Some core → IsSteady core → IsAnswered cache old new at line.act form
     → (later : List Operation) × IsServing cache new (played ++ (line, form) ∷ []) later × GrowsWith history later form
     × IsRight cache.sizes (after cache.start history) later (length history) (handle_after played) at line.act form

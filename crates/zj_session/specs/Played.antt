@@ -1,5 +1,5 @@
 -- What lines and their answers tell of the cores, and what each answer says of the history so far.
-use Rattle.std.specs.Prelude.{◌≡◌, ◌≢◌, ℕ, ◌==◌, Bool, true, false, cond, List, [], ◌∷◌, ◌++◌, length, map, filter, fold, take, Option, Some, None, IfSome, IsSome, slice_get, ⊤}
+use Rattle.std.specs.Prelude.{◌≡◌, ◌≢◌, ℕ, ◌==◌, Bool, true, false, List, [], ◌∷◌, ◌++◌, length, map, filter, fold, take, Option, Some, None, IfSome, slice_get, ⊤}
 use Rattle.std.specs.Option.{option_map}
 use Rattle.zj_block.specs.Lists.{Entries}
 use Rattle.zj_block.specs.Sizes.{Numbers}

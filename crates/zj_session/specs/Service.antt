@@ -1,5 +1,5 @@
 -- Several cores over one cache, between two lines: each knows of no core but its own, and one history has what all did.
-use Rattle.std.specs.Prelude.{◌≡◌, ◌≢◌, ℕ, ◌==◌, Bool, true, List, [], length, Option, Some, None, slice_get}
+use Rattle.std.specs.Prelude.{◌≡◌, ◌≢◌, ℕ, ◌==◌, true, List, length, Option, Some, None, slice_get}
 use Rattle.std.specs.List.{All, AllPairs, list_any}
 use Rattle.std.specs.FinMap as finmap
 use Rattle.std.specs.Option.{option_map}
@@ -39,7 +39,9 @@ pub record IsTold {D : Type 0} (c : CoreState D) (handle : Option OpenHandle) : 
   pub begun : c.begun ≡ option_map (λ h. h.call) handle
   pub held : (b : ℕ) → holds c.pass b ≡ list_any (λ taken. taken == b) (blocks_of handle)
 
--- Cores that serve calls, and have the handles and the history that the lines so far and their answers tell.
+-- Cores that serve calls, and have the handles and the history that the lines so far and their answers tell. No handle is told of a
+-- core that isn't there.
 pub record IsServing {D : Type 0} (cache : CacheParameters) (cores : List (CoreState D)) (played : List Played) (history : List Operation) : Type 0 where
   pub service : IsService cache cores history
   pub told : (i : ℕ) (c : CoreState D) → slice_get cores i ≡ Some c → IsTold c (handle_after played i)
+  pub absent : (i : ℕ) → slice_get cores i ≡ None → handle_after played i ≡ None

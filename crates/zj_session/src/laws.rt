@@ -2,9 +2,11 @@
 
 ghost use Rattle.zj_session.specs.Laws.{AnswersAreRight, FitsFurther};
 
+use zj_dev::Disk;
+
 /// Whatever a line is answered, the answer is right, and the cores go on to serve calls.
-pub fn answers_are_right()
-    ensures { AnswersAreRight }
+pub fn answers_are_right<D: Disk>()
+    ensures { AnswersAreRight D }
 {}
 
 /// Lines and answers that fit a history go on to fit with one more.

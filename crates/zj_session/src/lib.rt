@@ -8,6 +8,8 @@
 //!   Afterwards the core knows of no core but its own again, and all other cores are as they were.
 //! - The core has stored into none of the blocks that it holds then, and drawn for none (clause `steady`).
 //! - `AllocError` leaves all cores as they were, or the handle that was open on the core is dropped (clause `err`).
+//! - Laws: whatever a line is answered, the answer is right, and the cores go on to serve calls with one history of what all did
+//!   (`answers_are_right`); and lines, answers and a history that fit go on to fit with one more line (`fits_further`).
 #![tactic(auto)]
 
 mod answering;

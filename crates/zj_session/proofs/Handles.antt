@@ -1,0 +1,125 @@
+-- The handles that lines and their answers tell, and lines that fit a history with one line more.
+use Rattle.std.proofs.Common.{◌≡◌, ◌≢◌, ⊎_elim, ℕ, ◌+◌, ◌<◌, ◌≤◌, Bool, true, false, cond, List, [], ◌∷◌, ◌++◌, length, filter, fold, take, Option, Some, None, slice_get, append-nil, eq-eqb, ne_eqb, refl, sym, ap, ◌∙◌, subst, arith}
+use Rattle.std.proofs.lemmas.List.{length-append, take-append-le}
+use Rattle.std.proofs.lemmas.List.Elements.{filter-append}
+use Rattle.std.proofs.lemmas.List.Sums.{fold-append}
+use Rattle.std.proofs.Math.Seq.{take-append_seam}
+use Rattle.zj_block.specs.Sizes.{Numbers}
+use Rattle.zj_history.specs.Legal.{IsLegal}
+use Rattle.zj_history.specs.Operation.{Operation}
+use Rattle.zj_history.specs.State.{BlockState, after}
+use Rattle.zj_layout.proofs.Follow.{some_is}
+use Rattle.zj_script.specs.declared.line.Act.{Act}
+use Rattle.zj_script.specs.declared.line.Line.{Line}
+use Rattle.zj_script.specs.declared.answer.Form.{Form}
+use Rattle.zj_script.specs.declared.answer.Form.TheVariants as forms
+use Rattle.zj_session.specs.Laws.{FitsFurther}
+use Rattle.zj_session.specs.Played.{Fit, IsRight, OpenHandle, Played, Says, handle_after, handle_behind, has_ticket, is_on, tickets_in}
+use Rattle.zj_session.proofs.Lists.{at_end, fewer, kept_front}
+
+-- ---- the handle behind one line more
+
+abbrev step_of : Option OpenHandle → Played → Option OpenHandle
+step_of handle p = handle_behind handle p.0.act p.1
+
+handle_more : (played : List Played) (line : Line) (form : Form) (i : ℕ) → handle_after (played ++ (line, form) ∷ []) i ≡ cond (is_on i line.core) (handle_behind (handle_after played i) line.act form) (handle_after played i)
+handle_more played line form i = ap (fold step_of None) (filter-append (λ (p : Played). is_on i p.0.core) played ((line, form) ∷ [])) ∙ by (is_on i line.core)
+  where
+    by : (t : Bool) → fold step_of None (filter (λ (p : Played). is_on i p.0.core) played ++ cond t ((line, form) ∷ []) []) ≡ cond t (handle_behind (handle_after played i) line.act form) (handle_after played i)
+    by true = fold-append step_of None (filter (λ (p : Played). is_on i p.0.core) played) ((line, form) ∷ [])
+    by false = ap (fold step_of None) (append-nil (filter (λ (p : Played). is_on i p.0.core) played))
+
+module _ (played : List Played) (line : Line) (form : Form) (at : ℕ) (on : line.core ≡ Some at) where
+  pub handle_here : handle_after (played ++ (line, form) ∷ []) at ≡ handle_behind (handle_after played at) line.act form
+  handle_here = handle_more played line form at ∙ ap (λ t. cond t (handle_behind (handle_after played at) line.act form) (handle_after played at)) (ap (is_on at) on ∙ eq-eqb at at refl)
+
+  pub handle_else : (i : ℕ) → i ≢ at → handle_after (played ++ (line, form) ∷ []) i ≡ handle_after played i
+  handle_else i apart = handle_more played line form i ∙ ap (λ t. cond t (handle_behind (handle_after played i) line.act form) (handle_after played i)) (ap (is_on i) on ∙ ne_eqb at i (λ same. apart (sym same)))
+
+-- ---- lines that fit
+
+-- what an answer says holds further in a longer history
+says_more : (sizes : Numbers) (state : BlockState) (history more : List Operation) (next : ℕ) (handles : ℕ → Option OpenHandle) (core : ℕ) (act : Act) (form : Form) → Says sizes state history next handles core act form → Says sizes state (history ++ more) next handles core act form
+says_more sizes state history more next handles core act (forms.Drew ticket reply) s = record {
+  operation = s.operation;
+  call = s.call;
+  at_place = kept_front history more ticket s.operation s.at_place;
+  ticket_is = s.ticket_is;
+  core_is = s.core_is;
+  call_is = s.call_is;
+  performs = s.performs;
+}
+says_more sizes state history more next handles core act form s = s
+
+module _ (sizes : Numbers) (start : BlockState) (played : List Played) (history more : List Operation) (line : Line) (form : Form) (fit : Fit sizes start played history) where
+  -- an answer that is right behind some lines, after the operations known
+  abbrev RightBehind : List Played → List Operation → List Operation → ℕ → Act → Form → Type 0
+  RightBehind front known whole core act form = IsRight sizes (after start known) whole (tickets_in front) (handle_after front) core act form
+
+  abbrev all_played : List Played
+  all_played = played ++ (line, form) ∷ []
+
+  abbrev all_done : List Operation
+  all_done = history ++ more
+
+  right_more : (front : List Played) (known : List Operation) (core : ℕ) (act : Act) (form : Form) → RightBehind front known history core act form → RightBehind front known all_done core act form
+  right_more front known core act form r = record {
+    says = says_more sizes (after start known) history more (tickets_in front) (handle_after front) core act form r.says;
+    order = r.order;
+    suited = r.suited;
+    busy = r.busy;
+  }
+
+  -- the lines so far
+  earlier : (k core : ℕ) (p : Played) → k < length played → slice_get played k ≡ Some p → p.0.core ≡ Some core
+      → RightBehind (take k all_played) (take (tickets_in (take k all_played)) all_done) all_done core p.0.act p.1
+  earlier k core p low at on =
+      let few : tickets_in (take k played) ≤ length history = let most = fewer (λ (p : Played). has_ticket p.1) k played in let all = fit.tickets in omega arith in
+      let before : RightBehind (take k played) (take (tickets_in (take k played)) history) all_done core p.0.act p.1 = right_more (take k played) (take (tickets_in (take k played)) history) core p.0.act p.1 (fit.each k core p at on) in
+      subst (λ front. RightBehind front (take (tickets_in front) all_done) all_done core p.0.act p.1) (sym (take-append-le k played ((line, form) ∷ []) (omega arith)))
+      (subst (λ known. RightBehind (take k played) known all_done core p.0.act p.1) (sym (take-append-le (tickets_in (take k played)) history more few)) before)
+
+  -- and the last one
+  last : (core : ℕ) → IsRight sizes (after start history) all_done (length history) (handle_after played) core line.act form
+      → RightBehind (take (length played) all_played) (take (tickets_in (take (length played) all_played)) all_done) all_done core line.act form
+  last core right =
+      let now : RightBehind played history all_done core line.act form = subst (λ n. IsRight sizes (after start history) all_done n (handle_after played) core line.act form) fit.tickets right in
+      subst (λ front. RightBehind front (take (tickets_in front) all_done) all_done core line.act form) (sym (take-append_seam played ((line, form) ∷ [])))
+      (subst (λ known. RightBehind played known all_done core line.act form) (sym (take-append_seam history more) ∙ ap (λ n. take n all_done) fit.tickets) now)
+
+  abbrev counts : Played → Bool
+  counts p = has_ticket p.1
+
+  abbrev one : List Played
+  one = (line, form) ∷ []
+
+  tickets_more : length more ≡ cond (has_ticket form) 1 0 → length all_done ≡ tickets_in all_played
+  tickets_more count =
+      length-append history more ∙ ap (λ n. length history + n) (count ∙ sym (by (has_ticket form))) ∙ ap (λ n. n + length (filter counts one)) fit.tickets
+      ∙ sym (length-append (filter counts played) (filter counts one)) ∙ ap (length {A = Played}) (sym (filter-append counts played one))
+    where
+      by : (t : Bool) → length (cond t one []) ≡ cond t 1 0
+      by true = refl
+      by false = refl
+
+  fits : (core : ℕ) → line.core ≡ Some core → IsLegal start all_done → length more ≡ cond (has_ticket form) 1 0 → IsRight sizes (after start history) all_done (length history) (handle_after played) core line.act form → Fit sizes start all_played all_done
+  fits core on legal count right = record {
+    legal = legal;
+    tickets = tickets_more count;
+    each = λ k core' p at on'. ⊎_elim
+        (λ front. earlier k core' p front.0 front.1 on')
+        (λ end. at_last k core' p end.0 end.1 on')
+        (at_end played (line, form) k p at);
+  }
+    where
+      at_last : (k core' : ℕ) (p : Played) → k ≡ length played → (line, form) ≡ p → p.0.core ≡ Some core' → RightBehind (take k all_played) (take (tickets_in (take k all_played)) all_done) all_done core' p.0.act p.1
+      at_last k core' p here is on' =
+          subst (λ (q : Played). RightBehind (take k all_played) (take (tickets_in (take k all_played)) all_done) all_done core' q.0.act q.1) is
+          (subst (λ c. RightBehind (take k all_played) (take (tickets_in (take k all_played)) all_done) all_done c line.act form) (some_is (sym on ∙ ap (λ (q : Played). q.0.core) is ∙ on'))
+          (subst (λ n. RightBehind (take n all_played) (take (tickets_in (take n all_played)) all_done) all_done core line.act form) (sym here) (last core right)))
+
+pub fits_further : FitsFurther
+fits_further sizes start played history later core line form fit on legal grows right =
+    subst (Fit sizes start (played ++ (line, form) ∷ [])) (sym grows.later_is)
+    (fits sizes start played history grows.more line form fit core on (subst (IsLegal start) grows.later_is legal) grows.count
+    (subst (λ whole. IsRight sizes (after start history) whole (length history) (handle_after played) core line.act form) grows.later_is right))

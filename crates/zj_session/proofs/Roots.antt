@@ -1,0 +1,115 @@
+-- Which core has the root's block: no two have it, one that holds any block does, and it is taken only where no other one has it.
+use Rattle.std.proofs.Common.{◌≡◌, ◌≢◌, ◌⊎◌, inl, inr, ⊎_elim, ℕ, ◌<◌, Bool, true, false, true≢false, ◌||◌, eq-eqb, List, [], ◌∷◌, get_or, Option, Some, None, slice_get, refl, sym, ap, ◌∙◌, subst}
+use Rattle.std.specs.FinMap as finmap
+use Rattle.std.proofs.lemmas.Option.{slice_get-get_or}
+use Rattle.zj_block.specs.Sizes.{Numbers}
+use Rattle.zj_history.specs.Operation.{Operation}
+use Rattle.zj_tree.specs.declared.call.Call.{Call}
+use Rattle.zj_turns.specs.Passes.{CacheParameters, PassState, holds, mine}
+use Rattle.zj_core.specs.declared.fault.TakeFault.TheVariants as takes
+use Rattle.zj_core.specs.Core.{CoreState, IsOf, IsSteady, IsTakeCause}
+use Rattle.zj_core.specs.Handle.{root_block}
+use Rattle.zj_core.specs.Steps.{IsFree}
+use Rattle.zj_session.specs.Played.{IsHeldBy, Played, blocks_of, handle_after}
+use Rattle.zj_session.specs.Service.{IsServing}
+use Rattle.zj_session.proofs.Contents.{is_in}
+use Rattle.zj_session.proofs.Lists.{at_all}
+use Rattle.zj_session.proofs.Views.{HasMet}
+
+-- what isn't true is false
+pub not_true : (t : Bool) → (t ≡ true → ⊥) → t ≡ false
+not_true true never = absurd (never refl)
+not_true false never = refl
+
+-- a core is at a place, or none is
+pub there_or_not : {X : Type 0} (o : Option X) → (o ≡ None) ⊎ ((x : X) × (o ≡ Some x))
+there_or_not None = inl refl
+there_or_not (Some x) = inr (x, refl)
+
+-- blocks that hold no block are none
+none_in : (blocks : List ℕ) → ((b : ℕ) → is_in b blocks ≡ true → ⊥) → blocks ≡ []
+none_in [] never = refl
+none_in (x ∷ blocks) never = absurd (never x (ap (λ t. t || is_in x blocks) (eq-eqb x x refl)))
+
+some_in : (blocks : List ℕ) → blocks ≢ [] → (b : ℕ) × (is_in b blocks ≡ true)
+some_in [] some = absurd (some refl)
+some_in (x ∷ blocks) some = (x, ap (λ t. t || is_in x blocks) (eq-eqb x x refl))
+
+module _ {D : Type 0} (cache : CacheParameters) (old : List (CoreState D)) (played : List Played) (history : List Operation) (serving : IsServing cache old played history) (sizes : Numbers) (sizes_are : cache.sizes ≡ sizes) where
+  sizes_of : (i : ℕ) (c : CoreState D) → slice_get old i ≡ Some c → c.sizes ≡ sizes
+  sizes_of i c there = sym (at_all (λ (c : CoreState D). IsOf cache c) old serving.service.together.of i c there).sizes ∙ sizes_are
+
+  -- a core that holds any block holds the root's
+  pub has_root : (i : ℕ) (c : CoreState D) → slice_get old i ≡ Some c → (b : ℕ) → holds c.pass b ≡ true → holds c.pass (root_block sizes) ≡ true
+  has_root i c there b held = subst (λ s. holds c.pass (root_block s) ≡ true) (sizes_of i c there) ((at_all IsSteady old serving.service.steady i c there).root b held)
+
+  -- no two hold it
+  pub one_root : (i j : ℕ) (c d : CoreState D) → slice_get old i ≡ Some c → slice_get old j ≡ Some d → holds c.pass (root_block sizes) ≡ true → holds d.pass (root_block sizes) ≡ true → i ≡ j
+  one_root i j c d here there one other = serving.service.one_root i j c d here there (subst (λ s. holds c.pass (root_block s) ≡ true) (sym sizes_are) one) (subst (λ s. holds d.pass (root_block s) ≡ true) (sym sizes_are) other)
+
+  -- a handle that is told to have taken blocks is of a core that holds the root's
+  pub told_root : (i : ℕ) → blocks_of (handle_after played i) ≢ [] → (c : CoreState D) × (slice_get old i ≡ Some c) × (holds c.pass (root_block sizes) ≡ true)
+  told_root i some = ⊎_elim
+      (λ none. absurd (some (ap blocks_of (serving.absent i none))))
+      (λ (r : (c : CoreState D) × (slice_get old i ≡ Some c)).
+      let b = some_in (blocks_of (handle_after played i)) some in
+      (r.0, r.1, has_root i r.0 r.1 b.0 ((serving.told i r.0 r.1).held b.0 ∙ b.1)))
+      (there_or_not (slice_get old i))
+
+  -- what a core holds its handle is told to have taken
+  pub held_told : (i : ℕ) (c : CoreState D) → slice_get old i ≡ Some c → (b : ℕ) → holds c.pass b ≡ true → blocks_of (handle_after played i) ≢ []
+  held_told i c there b held none = true≢false (sym held ∙ (serving.told i c there).held b ∙ ap (is_in b) none)
+
+  -- a core that doesn't hold the root's block holds none
+  pub without_root : (i : ℕ) (c : CoreState D) → slice_get old i ≡ Some c → holds c.pass (root_block sizes) ≡ false → blocks_of (handle_after played i) ≡ []
+  without_root i c there free = none_in (blocks_of (handle_after played i)) (λ b taken. true≢false (sym (has_root i c there b ((serving.told i c there).held b ∙ taken)) ∙ free))
+
+  pub none_held : (i : ℕ) (c : CoreState D) → slice_get old i ≡ Some c → blocks_of (handle_after played i) ≡ [] → (b : ℕ) → holds c.pass b ≡ false
+  none_held i c there none b = (serving.told i c there).held b ∙ ap (is_in b) none
+
+  module _ (at : ℕ) (g : PassState) (met : HasMet old at g) where
+    -- a block that is free no core holds
+    pub free_of_all : (b : ℕ) → IsFree g b → (i : ℕ) (c : CoreState D) → slice_get old i ≡ Some c → holds c.pass b ≡ false
+    free_of_all b free i c there = free i (mine c.pass) (met.each i c there)
+
+    -- where another core has the root's block it isn't free
+    pub excluded : (holder : ℕ) → blocks_of (handle_after played holder) ≢ [] → IsFree g (root_block sizes) → ⊥
+    excluded holder some free = let r = told_root holder some in true≢false (sym r.2 ∙ free_of_all (root_block sizes) free holder r.0 r.1)
+
+    -- A core that misses a block, on the way of a call, misses the root's: another one has that, and it has none.
+    module _ (core : CoreState D) (at_place : slice_get old at ≡ Some core) (m : PassState) (core_is : m.core ≡ at)
+        (knows : (i : ℕ) (c : CoreState D) → i ≢ at → slice_get old i ≡ Some c → finmap.get m.view.known i ≡ Some (mine c.pass))
+        (took : holds m (root_block sizes) ≡ true → (holds core.pass (root_block sizes) ≡ true) ⊎ IsFree g (root_block sizes))
+        (call : Call) (block holder : ℕ) (cause : IsTakeCause cache sizes m call (takes.Busy block holder)) where
+      apart : holder ≢ at
+      apart same = cause.1.1 (same ∙ sym core_is)
+
+      holding : CoreState D
+      holding = get_or old holder core
+
+      held_there : slice_get old holder ≡ Some holding
+      unfolding holding
+      held_there = slice_get-get_or old holder core (subst (λ n. holder < n) (sym serving.service.many) cause.1.2)
+
+      theirs : holds holding.pass block ≡ true
+      theirs = cause.1.3 (mine holding.pass) (knows holder holding apart held_there)
+
+      their_root : holds holding.pass (root_block sizes) ≡ true
+      their_root = has_root holder holding held_there block theirs
+
+      pub own_free : holds core.pass (root_block sizes) ≡ false
+      own_free = not_true (holds core.pass (root_block sizes)) (λ own. apart (one_root holder at holding core held_there at_place their_root own))
+
+      pub then_free : holds m (root_block sizes) ≡ false
+      then_free = not_true (holds m (root_block sizes)) (λ own. ⊎_elim
+          (λ before. true≢false (sym before ∙ own_free))
+          (λ free. true≢false (sym their_root ∙ free_of_all (root_block sizes) free holder holding held_there))
+          (took own))
+
+      pub is_held_by : IsHeldBy sizes (handle_after played) at block holder
+      is_held_by = record {
+        root = cause.0.first then_free;
+        other = apart;
+        theirs = held_told holder holding held_there block theirs;
+        not_own = without_root at core at_place own_free;
+      }
