@@ -2,13 +2,14 @@ pub mod Acts
 pub mod Contents
 pub mod Growing
 pub mod Handles
+pub mod Line
 pub mod Lists
 pub mod Moving
 pub mod Outcomes
 pub mod Right
 pub mod Roots
-pub mod Seen
 pub mod Running
+pub mod Seen
 pub mod Serving
 pub mod Steps
 pub mod Together
