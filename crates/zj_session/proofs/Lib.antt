@@ -4,9 +4,12 @@ pub mod Growing
 pub mod Handles
 pub mod Lists
 pub mod Moving
+pub mod Onward
 pub mod Outcomes
+pub mod Resting
 pub mod Right
 pub mod Roots
+pub mod Schedules
 pub mod Seen
 pub mod Serving
 pub mod Steps
