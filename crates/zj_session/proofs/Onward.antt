@@ -85,34 +85,35 @@ module _ {D : Type 0} (old new : CoreState D) (went : WentOn old new) where
   pub went_core : new.pass.core ≡ old.pass.core
   went_core = ap (λ (p : PassState). p.core) went.pass
 
--- the cores are together still where the one at a place went on
-pub together_set : {D : Type 0} (cache : CacheParameters) (old : List (CoreState D)) (at : ℕ) (core new : CoreState D) → slice_get old at ≡ Some core → WentOn core new → AreTogether cache old → AreTogether cache (slice_set old at new)
-together_set {D} cache old at core new there went together = record {
-  of = all_at (IsOf cache) all (each_set old at core new there (λ _ c. IsOf cache c)
-      (went_of core new went cache (at_all (IsOf cache) old together.of at core there))
-      (λ i c here. at_all (IsOf cache) old together.of i c here));
-  alone = all_at Lone all (each_set old at core new there (λ _ c. Lone c)
-      (went_lone core new went (at_all Lone old together.alone at core there))
-      (λ i c here. at_all Lone old together.alone i c here));
-  apart = pairs_at Apart all (λ i j c d lower here below same.
-      let a = was i c here in
-      let b = was j d below in
-      at_pairs Apart old together.apart i j a.0 b.0 lower a.1 b.1 (sym a.2 ∙ same ∙ b.2));
-}
-  where
-    abbrev all : List (CoreState D)
-    all = slice_set old at new
+module _ {D : Type 0} (cache : CacheParameters) (old : List (CoreState D)) (at : ℕ) (core new : CoreState D) (there : slice_get old at ≡ Some core) (went : WentOn core new) (together : AreTogether cache old) where
+  abbrev all : List (CoreState D)
+  all = slice_set old at new
 
-    abbrev Lone : CoreState D → Type 0
-    Lone c = IsLone c.pass
+  abbrev Lone : CoreState D → Type 0
+  Lone c = IsLone c.pass
 
-    abbrev Apart : CoreState D → CoreState D → Type 0
-    Apart c d = c.pass.core ≢ d.pass.core
+  abbrev Apart : CoreState D → CoreState D → Type 0
+  Apart c d = c.pass.core ≢ d.pass.core
 
-    was : (i : ℕ) (c : CoreState D) → slice_get all i ≡ Some c → (b : CoreState D) × (slice_get old i ≡ Some b) × (c.pass.core ≡ b.pass.core)
-    was = each_set old at core new there (λ i c. (b : CoreState D) × (slice_get old i ≡ Some b) × (c.pass.core ≡ b.pass.core))
-        (core, there, went_core core new went)
-        (λ i c here. (c, here, refl))
+  was : (i : ℕ) (c : CoreState D) → slice_get all i ≡ Some c → (b : CoreState D) × (slice_get old i ≡ Some b) × (c.pass.core ≡ b.pass.core)
+  was = each_set old at core new there (λ i c. (b : CoreState D) × (slice_get old i ≡ Some b) × (c.pass.core ≡ b.pass.core))
+      (core, there, went_core core new went)
+      (λ i c here. (c, here, refl))
+
+  -- the cores are together still where the one at a place went on
+  pub together_set : AreTogether cache all
+  together_set = record {
+    of = all_at (IsOf cache) all (each_set old at core new there (λ _ c. IsOf cache c)
+        (went_of core new went cache (at_all (IsOf cache) old together.of at core there))
+        (λ i c here. at_all (IsOf cache) old together.of i c here));
+    alone = all_at Lone all (each_set old at core new there (λ _ c. Lone c)
+        (went_lone core new went (at_all Lone old together.alone at core there))
+        (λ i c here. at_all Lone old together.alone i c here));
+    apart = pairs_at Apart all (λ i j c d lower here below same.
+        let a = was i c here in
+        let b = was j d below in
+        at_pairs Apart old together.apart i j a.0 b.0 lower a.1 b.1 (sym a.2 ∙ same ∙ b.2));
+  }
 
 -- ---- what an act does
 

@@ -1,5 +1,5 @@
 -- Cores of which each handle that was open is dropped: they serve calls still, and no handle is open.
-use Rattle.std.proofs.Common.{◌≡◌, ◌≢◌, ◌⊎◌, ⊎_elim, ℕ, zero, suc, ◌<◌, Bool, true, false, true≢false, is_some, List, [], ◌∷◌, length, map, Option, Some, None, slice_get, slice_set, option_map, refl, sym, ap, ◌∙◌, subst}
+use Rattle.std.proofs.Common.{◌≡◌, ◌≢◌, ◌⊎◌, ⊎_elim, ℕ, ◌+◌, ◌<◌, true, false, true≢false, is_some, List, [], ◌∷◌, ◌++◌, length, map, take, drop, get_or, set, add-one, Option, Some, None, slice_get, slice_set, option_map, refl, sym, ap, ◌∙◌, subst}
 use Rattle.std.specs.FinMap as finmap
 use Rattle.std.specs.Ordering.{nat_cmp}
 use Rattle.std.specs.List.{All}
@@ -18,7 +18,7 @@ use Rattle.zj_core.proofs.Knowing.{knowing_same, mine_now}
 use Rattle.zj_session.specs.Answering.{IsLeftOff, without_handle}
 use Rattle.zj_session.specs.Playing.{AreIdle, journals_of, rested, resting}
 use Rattle.zj_session.specs.Service.{AreTogether, IsService}
-use Rattle.zj_session.proofs.Lists.{all_at, at_all, mapped_some, pairs_at}
+use Rattle.zj_session.proofs.Lists.{all_at, at_all, mapped_here, mapped_next, mapped_some, pairs_at}
 use Rattle.zj_session.proofs.Onward.{IsLone, WentOn, at_pairs, map_set, went_core, went_lone, went_of, went_off}
 use Rattle.zj_session.proofs.Together.{knows_own}
 
@@ -31,6 +31,13 @@ by_begun {D} c P none some = by c.begun refl
     by : (o : Option Call) → c.begun ≡ o → P (rested c o)
     by None is = none is
     by (Some call) is = some call is
+
+-- and by what tells whether one is
+pub rest_open : {D : Type 0} (c : CoreState D) → is_some c.begun ≡ true → without_handle c ≡ resting c
+rest_open c some = by_begun c (λ r. without_handle c ≡ r) (λ is. absurd (true≢false (sym some ∙ ap is_some is))) (λ call is. refl)
+
+pub rest_closed : {D : Type 0} (c : CoreState D) → is_some c.begun ≡ false → resting c ≡ c
+rest_closed c none = by_begun c (λ r. r ≡ c) (λ is. refl) (λ call is. absurd (true≢false (ap is_some (sym is) ∙ none)))
 
 module _ {D : Type 0} (c : CoreState D) where
   pub idle_rest : (resting c).begun ≡ None
@@ -105,6 +112,16 @@ module _ {D : Type 0} (cores : List (CoreState D)) where
 pub same_journals : {D : Type 0} (cores : List (CoreState D)) → journals_of (map resting cores) ≡ journals_of cores
 same_journals [] = refl
 same_journals (c ∷ cores) = λ i. area_rest c i ∷ same_journals cores i
+
+-- one core more is dropped, of those that were so far
+pub rest_next : {D : Type 0} (cores now next : List (CoreState D)) (i : ℕ) (d new : CoreState D) → i < length cores → now ≡ map resting (take i cores) ++ drop i cores
+    → new ≡ resting (get_or now i d) → next ≡ set now i new → next ≡ map resting (take (i + 1) cores) ++ drop (i + 1) cores
+rest_next {D} cores now next i d new low so_far new_is next_is =
+    next_is
+    ∙ ap (λ l. set l i new) so_far
+    ∙ ap (set (map resting (take i cores) ++ drop i cores) i) (new_is ∙ ap (resting {D = D}) (ap (λ l. get_or l i d) so_far ∙ mapped_here (resting {D = D}) cores i d low))
+    ∙ mapped_next (resting {D = D}) cores i d low
+    ∙ ap (λ n. map (resting {D = D}) (take n cores) ++ drop n cores) (sym (add-one i))
 
 module _ {D : Type 0} (cache : CacheParameters) (cores : List (CoreState D)) (together : AreTogether cache cores) where
   abbrev Lone : CoreState D → Type 0
