@@ -1,9 +1,9 @@
 -- Lines that are played one after the other: the cores and the answers behind some of them.
-use Rattle.std.proofs.Common.{◌≡◌, ℕ, ◌+◌, ◌≤◌, true, false, is_some, List, [], ◌∷◌, ◌++◌, length, map, Option, Some, None, slice_get, append-nil, append_assoc, refl, sym, ap, ◌∙◌, subst, arith}
+use Rattle.std.proofs.Common.{◌≡◌, ℕ, ◌+◌, ◌-◌, ◌<◌, is_some, List, [], ◌∷◌, ◌++◌, length, map, get_or, take, Option, Some, None, slice_get, append-nil, append_assoc, refl, sym, ap, ◌∙◌, subst, arith}
 use Rattle.std.specs.FinMap as finmap
 use Rattle.std.specs.Ordering.{nat_cmp}
 use Rattle.std.specs.List.{All}
-use Rattle.std.proofs.lemmas.List.{length-append, map-append}
+use Rattle.std.proofs.lemmas.List.{map-append, take_more}
 use Rattle.zj_history.specs.Operation.{Operation}
 use Rattle.zj_script.specs.declared.answer.Answer.{Answer}
 use Rattle.zj_script.specs.declared.answer.Form.{Form}
@@ -97,6 +97,18 @@ plays_line {D} cache first cores after lines done old new at line form on so_far
           serving = step.1;
           fit = fits_further cache.sizes cache.start before was.played was.later step.0 at line form was.fit on step.1.service.has.legal.legal step.2 step.3;
         }
+
+-- and so the whole step
+pub plays_step : {D : Type 0} (cache : CacheParameters) (first cores after : List (CoreState D)) (lines : List Line) (index : ℕ) (old new next : List Answer) (at : ℕ) (line : Line) (form : Form)
+    → index < length lines → line ≡ get_or lines index line → line.core ≡ Some at → IsPlaying cache first cores (length lines - index) (take index lines) old new → IsAnswered cache cores after at line.act form
+    → ((core : CoreState D) → slice_get after at ≡ Some core → IsSteady core) → next ≡ new ++ answer_of (line, form) ∷ []
+    → IsPlaying cache first after (length lines - (index + 1)) (take (index + 1) lines) old next
+plays_step {D} cache first cores after lines index old new next at line form low is on so_far answered steady next_is =
+    subst (λ l. IsPlaying cache first after (length lines - (index + 1)) l old next) (sym (take_more lines index line low ∙ ap (λ (x : Line). take index lines ++ x ∷ []) (sym is)))
+    (subst (λ l. IsPlaying cache first after (length lines - (index + 1)) (take index lines ++ line ∷ []) old l) (sym next_is)
+    (plays_line cache first cores after (length lines - (index + 1)) (take index lines) old new at line form on
+    (let counts : length lines - index ≡ (length lines - (index + 1)) + 1 = omega arith in subst (λ n. IsPlaying cache first cores n (take index lines) old new) counts so_far)
+    answered steady))
 
 -- ---- behind the last one
 
