@@ -1,12 +1,11 @@
 -- What stays behind a line: the cores are together, each with its journal, and each has a draw less at most.
-use Rattle.std.proofs.Common.{◌≡◌, ◌≢◌, ◌⊎◌, ⊎_elim, ℕ, zero, suc, ◌+◌, ◌<◌, ◌≤◌, List, [], ◌∷◌, ◌++◌, length, map, get_or, take, drop, Option, Some, None, slice_get, slice_set, add-one, AllPairs, refl, sym, ap, ◌∙◌, subst, arith}
+use Rattle.std.proofs.Common.{◌≡◌, ◌≢◌, ⊎_elim, ℕ, zero, suc, ◌+◌, ◌<◌, ◌≤◌, List, [], ◌∷◌, ◌++◌, length, map, get_or, take, drop, Option, Some, None, slice_get, slice_set, add-one, AllPairs, refl, sym, ap, ◌∙◌, subst, arith}
 use Rattle.std.proofs.lemmas.List.{length-append}
 use Rattle.std.proofs.lemmas.Option.{get_or_from_slice_get, slice_get_within}
 use Rattle.std.specs.FinMap as finmap
 use mathlib.Core.Logic.{dite}
 use native.Mathlib.Decide.{ℕ_discrete}
 use Rattle.zj_block.specs.Sizes.{Numbers}
-use Rattle.zj_area.specs.Journal.{AreaView}
 use Rattle.zj_history.specs.Operation.{Operation}
 use Rattle.zj_layout.proofs.Follow.{none_some, some_is}
 use Rattle.zj_script.specs.declared.line.Act.{Act}

@@ -1,5 +1,5 @@
 -- Cores of which each handle that was open is dropped: they serve calls still, and no handle is open.
-use Rattle.std.proofs.Common.{◌≡◌, ◌≢◌, ◌⊎◌, ⊎_elim, ℕ, ◌+◌, ◌<◌, true, false, true≢false, is_some, List, [], ◌∷◌, ◌++◌, length, map, take, drop, get_or, set, add-one, Option, Some, None, slice_get, slice_set, option_map, refl, sym, ap, ◌∙◌, subst}
+use Rattle.std.proofs.Common.{◌≡◌, ◌≢◌, ⊎_elim, ℕ, ◌+◌, ◌<◌, true, false, true≢false, is_some, List, [], ◌∷◌, ◌++◌, length, map, take, drop, get_or, set, add-one, Option, Some, None, slice_get, refl, sym, ap, ◌∙◌, subst}
 use Rattle.std.specs.FinMap as finmap
 use Rattle.std.specs.Ordering.{nat_cmp}
 use Rattle.std.specs.List.{All}
@@ -16,7 +16,7 @@ use Rattle.zj_core.specs.Handle.{root_block}
 use Rattle.zj_core.specs.Steps.{emptied}
 use Rattle.zj_core.proofs.Knowing.{knowing_same, mine_now}
 use Rattle.zj_session.specs.Answering.{IsLeftOff, without_handle}
-use Rattle.zj_session.specs.Playing.{AreIdle, journals_of, rested, resting}
+use Rattle.zj_session.specs.Playing.{AreIdle, IsAtRest, journals_of, rested, resting}
 use Rattle.zj_session.specs.Service.{AreTogether, IsService}
 use Rattle.zj_session.proofs.Lists.{all_at, at_all, mapped_here, mapped_next, mapped_some, pairs_at}
 use Rattle.zj_session.proofs.Onward.{IsLone, WentOn, at_pairs, map_set, went_core, went_lone, went_of, went_off}
@@ -152,6 +152,10 @@ module _ {D : Type 0} (cache : CacheParameters) (cores : List (CoreState D)) (to
       (λ dropped. ap (map (resting {D = D})) dropped.2
       ∙ map_set (resting {D = D}) cores at dropped.0 (without_handle dropped.0) dropped.1 (rest_twice dropped.0 (lone_at at dropped.0 dropped.1) (at_all IsSteady cores steady at dropped.0 dropped.1)))
       off
+
+-- and so they rest between two schedules
+pub at_rest : {D : Type 0} (cache : CacheParameters) (last whole : List (CoreState D)) → whole ≡ map resting last → AreTogether cache last → IsAtRest cache whole
+at_rest cache last whole is together = subst (IsAtRest cache) (sym is) (record { together = together_rest cache last together; idle = are_idle last })
 
 -- they serve calls still
 pub rest_serves : {D : Type 0} (cache : CacheParameters) (cores : List (CoreState D)) (history : List Operation) → IsService cache cores history → IsService cache (map resting cores) history

@@ -1,5 +1,5 @@
 -- Lines that are played one after the other: the cores and the answers behind some of them.
-use Rattle.std.proofs.Common.{◌≡◌, ℕ, ◌+◌, ◌-◌, ◌<◌, is_some, List, [], ◌∷◌, ◌++◌, length, map, get_or, take, Option, Some, None, slice_get, append-nil, append_assoc, refl, sym, ap, ◌∙◌, subst, arith}
+use Rattle.std.proofs.Common.{◌≡◌, ℕ, ◌+◌, ◌-◌, ◌<◌, is_some, List, [], ◌∷◌, ◌++◌, length, map, get_or, take, Some, None, slice_get, append-nil, append_assoc, refl, sym, ap, ◌∙◌, subst, arith}
 use Rattle.std.specs.FinMap as finmap
 use Rattle.std.specs.Ordering.{nat_cmp}
 use Rattle.std.specs.List.{All}
@@ -9,11 +9,11 @@ use Rattle.zj_script.specs.declared.answer.Answer.{Answer}
 use Rattle.zj_script.specs.declared.answer.Form.{Form}
 use Rattle.zj_script.specs.declared.line.Line.{Line}
 use Rattle.zj_turns.specs.Views.{Hold}
-use Rattle.zj_turns.specs.Passes.{CacheParameters, mine}
+use Rattle.zj_turns.specs.Passes.{CacheParameters}
 use Rattle.zj_core.specs.Core.{CoreState, IsSteady}
 use Rattle.zj_session.specs.Answering.{IsAnswered}
 use Rattle.zj_session.specs.Played.{Fit, Played}
-use Rattle.zj_session.specs.Playing.{AreIdle, PlaysLines, answer_of, journals_of, resting}
+use Rattle.zj_session.specs.Playing.{AreIdle, PlaysLines, ServiceState, answer_of, journals_of, resting}
 use Rattle.zj_session.specs.Service.{AreTogether, IsService, IsServing}
 use Rattle.zj_session.proofs.Handles.{fits_further, fits_none}
 use Rattle.zj_session.proofs.Lists.{at_all, set_here}
@@ -117,12 +117,34 @@ pub plays_end : {D : Type 0} (cache : CacheParameters) (first cores last : List 
     → done ++ rest ≡ lines → (All IsSteady cores → map resting last ≡ map resting cores) → IsPlaying cache first cores many done old new → (before : List Operation) → IsService cache first before
     → (answers : List Answer) × (new ≡ old ++ answers) × PlaysLines (record { cache = cache; cores = first }) (record { cache = cache; cores = map resting last }) before lines rest answers
 plays_end {D} cache first cores last many lines done rest old new parts same so_far before service =
-    let was = so_far.plays before service in
-    (map answer_of was.played, was.answers_are, record {
-      played = was.played;
-      later = was.later;
-      lines_are = ap (λ l. l ++ rest) was.lines_are ∙ parts;
-      answers_are = refl;
-      fit = was.fit;
-      service = subst (λ l. IsService cache l was.later) (sym (same was.serving.service.steady)) (rest_serves cache cores was.later was.serving.service);
-    })
+    let was = so_far.plays before service in (
+      map answer_of was.played,
+      was.answers_are,
+      record {
+        played = was.played;
+        later = was.later;
+        lines_are = ap (λ l. l ++ rest) was.lines_are ∙ parts;
+        answers_are = refl;
+        fit = was.fit;
+        service = subst (λ l. IsService cache l was.later) (sym (same was.serving.service.steady)) (rest_serves cache cores was.later was.serving.service);
+      },
+    )
+
+-- the same of services and lines that are equal
+module _ {D : Type 0} (first first' last last' : ServiceState D) (lines lines' : List Line) (same_first : first ≡ first') (same_last : last ≡ last') (same_lines : lines ≡ lines') (old new : List Answer) (before : List Operation) where
+  moved : (rest : List Line) (answers : List Answer) → PlaysLines first last before lines rest answers → PlaysLines first' last' before lines' rest answers
+  moved rest answers plays =
+      subst (λ (s : ServiceState D). PlaysLines s last' before lines' rest answers) same_first
+      (subst (λ (s : ServiceState D). PlaysLines first s before lines' rest answers) same_last
+      (subst (λ (l : List Line). PlaysLines first last before l rest answers) same_lines plays))
+
+  served : IsService first'.cache first'.cores before → IsService first.cache first.cores before
+  served service = subst (λ (s : ServiceState D). IsService s.cache s.cores before) (sym same_first) service
+
+  pub plays_so : (rest : List Line) → (IsService first.cache first.cores before → (answers : List Answer) × (new ≡ old ++ answers) × PlaysLines first last before lines rest answers)
+      → IsService first'.cache first'.cores before → (answers : List Answer) × (new ≡ old ++ answers) × PlaysLines first' last' before lines' rest answers
+  plays_so rest plays service = let e = plays (served service) in (e.0, e.1, moved rest e.0 e.2)
+
+  pub stops_so : (IsService first.cache first.cores before → (rest : List Line) × (answers : List Answer) × (new ≡ old ++ answers) × PlaysLines first last before lines rest answers)
+      → IsService first'.cache first'.cores before → (rest : List Line) × (answers : List Answer) × (new ≡ old ++ answers) × PlaysLines first' last' before lines' rest answers
+  stops_so plays service = let e = plays (served service) in (e.0, e.1, e.2, moved e.0 e.1 e.3)

@@ -1,5 +1,5 @@
 -- Several cores that play the lines of a schedule.
-use Rattle.std.specs.Prelude.{◌≡◌, ℕ, ◌<◌, List, ◌++◌, length, map, Option, Some, None, IfSome, IsSomeAnd, slice_get}
+use Rattle.std.specs.Prelude.{◌≡◌, ℕ, ◌<◌, List, ◌++◌, map, Option, Some, None, IfSome, IsSomeAnd, slice_get}
 use Rattle.std.specs.List.{All}
 use Rattle.zj_block.specs.Sizes.{Numbers}
 use Rattle.zj_area.specs.Journal.{AreaView}

@@ -1,9 +1,8 @@
-use Rattle.std.proofs.Common.{◌≡◌, ◌<◌, length, get_or, sym, ap, ◌∙◌, subst, arith}
-use Rattle.zj_core.specs.Core.{CoreState, IsOf}
+use Rattle.std.proofs.Common.{get_or, sym, ap, ◌∙◌, subst}
+use Rattle.zj_core.specs.Core.{IsOf}
 use Rattle.zj_session.specs.Playing.{resting}
 use Rattle.zj_session.proofs.Lists.{mapped_here}
 use Rattle.zj_session.proofs.Resting.{rest_closed, rest_next, rest_open}
-use Rattle.zj_session.proofs.Schedules.{plays_end}
 use Rattle.zj_session.proofs.playing.drop_all.Goals as goal
 use Rattle.zj_session.proofs.playing.drop_all.Goals.{then-open_handle, else-open_handle}
 

@@ -1,5 +1,5 @@
-use Rattle.std.proofs.Common.{◌≡◌, ◌≤◌, ◌+◌, ◌-◌, ◌∷◌, ◌++◌, [], OnErr, List, length, take, drop, get_or, append-nil, refl, sym, ap, ◌∙◌, subst, arith}
-use Rattle.std.proofs.lemmas.List.{take-append-drop, take_all, take_more}
+use Rattle.std.proofs.Common.{◌≡◌, ◌≤◌, ◌-◌, ◌∷◌, ◌++◌, [], length, take, drop, append-nil, refl, ap, ◌∙◌, arith}
+use Rattle.std.proofs.lemmas.List.{take-append-drop, take_all}
 use Rattle.std.proofs.lemmas.Result.{err_from_is_err_and}
 use Rattle.zj_turns.specs.Passes.{left_of}
 use Rattle.zj_session.proofs.Lists.{at_all}
@@ -17,7 +17,7 @@ returns-in_err-reserve-clause-stops g c =
     let p = err_from_is_err_and c.from_residual.result c.from_residual.ensures.1 in
     rw p.1 (λ before service.
     let e = plays_end c.args.cache.now c.args.cores.now c.loop-line.cores c.loop-line.cores (length c.args.lines.now - c.loop-line.line-index) c.args.lines.now (take c.loop-line.line-index c.args.lines.now)
-        (drop c.loop-line.line-index c.args.lines.now) c.args.out.now.answers c.loop-line.out.answers (take-append-drop c.loop-line.line-index c.args.lines.now) (λ _. refl) c.loop-line.invariant before service in
+    (drop c.loop-line.line-index c.args.lines.now) c.args.out.now.answers c.loop-line.out.answers (take-append-drop c.loop-line.line-index c.args.lines.now) (λ _. refl) c.loop-line.invariant before service in
     (drop c.loop-line.line-index c.args.lines.now, e.0, c.reserve.ensures.answers ∙ e.1, e.2))
 
 pub returns-in_err-reserve-clause-together : goal.returns-in_err-reserve-clause-together
@@ -37,8 +37,8 @@ returns-in_err-form-clause-stops g c =
     let p = err_from_is_err_and c.from_residual-in_err-form.result c.from_residual-in_err-form.ensures.1 in
     rw p.1 (λ before service.
     let e = plays_end c.args.cache.now c.args.cores.now c.loop-line.cores c.answer_line.new.cores (length c.args.lines.now - c.loop-line.line-index) c.args.lines.now (take c.loop-line.line-index c.args.lines.now)
-        (drop c.loop-line.line-index c.args.lines.now) c.args.out.now.answers c.loop-line.out.answers (take-append-drop c.loop-line.line-index c.args.lines.now)
-        (λ steady. rest_off c.args.cache.now c.loop-line.cores c.loop-line.invariant.together c.answer_line.new.cores c.unwrap-core.result steady c.in_err-form.ensures.err) c.loop-line.invariant before service in
+    (drop c.loop-line.line-index c.args.lines.now) c.args.out.now.answers c.loop-line.out.answers (take-append-drop c.loop-line.line-index c.args.lines.now)
+    (λ steady. rest_off c.args.cache.now c.loop-line.cores c.loop-line.invariant.together c.answer_line.new.cores c.unwrap-core.result steady c.in_err-form.ensures.err) c.loop-line.invariant before service in
     (drop c.loop-line.line-index c.args.lines.now, e.0, c.reserve.ensures.answers ∙ e.1, e.2))
 
 pub returns-in_err-form-clause-together : goal.returns-in_err-form-clause-together
