@@ -5,10 +5,13 @@ pub mod Handles
 pub mod Line
 pub mod Lists
 pub mod Moving
+pub mod Onward
 pub mod Outcomes
+pub mod Resting
 pub mod Right
 pub mod Roots
 pub mod Running
+pub mod Schedules
 pub mod Seen
 pub mod Serving
 pub mod Steps
