@@ -38,7 +38,7 @@ fn handles_take_turns(rt: HostRuntime) -> Result<(), Fail> {
         // A whole call is refused while another core has the root's block, and made once it is dropped.
         (
             "0 begin list /\n0 take\n1 stat /\n0 drop\n1 stat /\n",
-            "1 0 begun\n2 0 took 1\n3 1 busy 1 0\n4 0 dropped\n5 1 0 dir\n",
+            "1 0 begun\n2 0 took 1\n3 1 busy 1 0\n4 0 dropped\n5 1 0 dir 0\n",
         ),
         // A handle that was begun and took nothing holds nobody up.
         ("0 begin list /\n1 mkdir /a\n0 stop\n", "1 0 begun\n2 1 0 ok\n3 0 1 names a\n"),
