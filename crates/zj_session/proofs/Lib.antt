@@ -2,6 +2,7 @@ pub mod Acts
 pub mod Contents
 pub mod Growing
 pub mod Handles
+pub mod Line
 pub mod Lists
 pub mod Moving
 pub mod Outcomes
