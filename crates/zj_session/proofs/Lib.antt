@@ -1,5 +1,6 @@
 pub mod Acts
 pub mod Contents
+pub mod Cores
 pub mod Growing
 pub mod Handles
 pub mod Line

@@ -1,0 +1,82 @@
+-- Cores that are made of passes and journals one by one, and closed again.
+use Rattle.std.proofs.Common.{◌≡◌, ◌≢◌, ℕ, zero, suc, ◌+◌, ◌-◌, ◌<◌, ◌≤◌, List, [], ◌∷◌, ◌++◌, length, map, reverse, Option, Some, None, IfSome, slice_get, refl, sym, ap, ◌∙◌, subst, arith, ⊎_elim, append_assoc, length-append}
+use Rattle.std.proofs.lemmas.List.{map-append, reverse-append, same_from_push}
+use Rattle.zj_area.specs.Journal.{AreaView}
+use Rattle.zj_block.specs.Sizes.{Numbers}
+use Rattle.zj_turns.specs.Passes.{CacheParameters, IsIdle, PassState, dealt, fresh}
+use Rattle.zj_turns.proofs.Lone.{fresh_idle}
+use Rattle.zj_core.specs.Core.{CoreState, IsReady}
+use Rattle.zj_session.specs.Playing.{AreIdle, AreJournals, journals_of}
+use Rattle.zj_session.specs.Starting.{AreFresh, IsFresh}
+use Rattle.zj_session.proofs.Lists.{all_at, at_end, at_seam}
+
+module _ {X : Type 0} where
+  -- the last of a list goes behind one, or comes from the front of it
+  pub turned : (xs ys ws vs : List X) (a : X) → ys ≡ xs ++ a ∷ [] → vs ≡ ws ++ a ∷ [] → xs ++ reverse vs ≡ ys ++ reverse ws
+  turned xs ys ws vs a ys_is vs_is =
+      ap (λ v. xs ++ reverse v) vs_is ∙ ap (λ r. xs ++ r) (reverse-append ws (a ∷ [])) ∙ sym (append_assoc xs (a ∷ []) (reverse ws)) ∙ ap (λ y. y ++ reverse ws) (sym ys_is)
+
+  pub nil_right : (xs : List X) → xs ++ [] ≡ xs
+  nil_right [] = refl
+  nil_right (x ∷ xs) = ap (λ l. x ∷ l) (nil_right xs)
+
+  pub none_long : (xs : List X) → length xs ≡ 0 → xs ≡ []
+  none_long [] none = refl
+  none_long (x ∷ xs) none = absurd (omega arith)
+
+  -- what stands behind a list
+  pub at_front : (xs ys zs : List X) (a : X) (n : ℕ) → length xs ≡ n → xs ++ (a ∷ ys) ≡ zs → slice_get zs n ≡ Some a
+  at_front [] ys zs a n long is = ap (slice_get zs) (sym long) ∙ ap (λ l. slice_get l 0) (sym is)
+  at_front (x ∷ xs) ys zs a zero long is = absurd (omega arith)
+  at_front (x ∷ xs) ys zs a (suc n) long is = ap (λ l. slice_get l (suc n)) (sym is) ∙ at_front xs ys (xs ++ (a ∷ ys)) a n (omega arith) refl
+
+-- passes that are dealt go to the cores from 0 on
+module _ (cache : CacheParameters) (n core : ℕ) (low : core < n) where
+  dealt_suc : dealt cache.table n (n - core) ≡ dealt cache.table n (n - (core + 1)) ++ fresh cache.table core ∷ []
+  dealt_suc =
+      let k : ℕ = n - (core + 1) in
+      let at : n - core ≡ suc k = omega arith in
+      let own : n - suc k ≡ core = omega arith in
+      ap (dealt cache.table n) at ∙ ap (λ (c : ℕ). dealt cache.table n k ++ fresh cache.table c ∷ []) own
+
+  pub dealt_some : (ps : List PassState) → ps ≡ dealt cache.table n (n - core) → ps ≡ [] → ⊥
+  dealt_some ps is none =
+      let e : [] ≡ dealt cache.table n (n - (core + 1)) ++ fresh cache.table core ∷ [] = sym none ∙ is ∙ dealt_suc in
+      let long = ap length e ∙ length-append (dealt cache.table n (n - (core + 1))) (fresh cache.table core ∷ []) in
+      omega arith
+
+  pub dealt_out : (ps qs : List PassState) (p : PassState) → ps ≡ dealt cache.table n (n - core) → ps ≡ qs ++ p ∷ [] → (qs ≡ dealt cache.table n (n - (core + 1))) × (p ≡ fresh cache.table core)
+  dealt_out ps qs p is out = same_from_push qs (dealt cache.table n (n - (core + 1))) p (fresh cache.table core) (sym out ∙ is ∙ dealt_suc)
+
+pub idle_fresh : (cache : CacheParameters) (core : ℕ) (p : PassState) → p ≡ fresh cache.table core → IsIdle p.table p.core p
+idle_fresh cache core p is = subst (λ (q : PassState). IsIdle q.table q.core q) (sym is) (fresh_idle cache.table core)
+
+module _ {D : Type 0} where
+  -- one core more
+  pub fresh_more : (cache : CacheParameters) (sizes : Numbers) (cores : List (CoreState D)) (c : CoreState D) (n : ℕ) → length cores ≡ n → AreFresh cache sizes cores → IsFresh cache sizes n c → AreFresh cache sizes (cores ++ c ∷ [])
+  fresh_more cache sizes cores c n long each new i d at = ⊎_elim
+      (λ r. each i d r.1)
+      (λ r. subst (λ (e : CoreState D). IsFresh cache sizes i e) r.1 (subst (λ j. IsFresh cache sizes j c) (sym (r.0 ∙ long)) new))
+      (at_end cores c i d at)
+
+  pub idle_all : (cache : CacheParameters) (sizes : Numbers) (cores : List (CoreState D)) → AreFresh cache sizes cores → AreIdle cores
+  idle_all cache sizes cores each = all_at (λ (c : CoreState D). c.begun ≡ None) cores (λ i c at. (each i c at).idle)
+
+  -- the journal of the next core
+  pub own_journal : (sizes : Numbers) (cores : List (CoreState D)) (rest areas : List (AreaView D)) (a : AreaView D) (n : ℕ) → AreJournals sizes areas → length cores ≡ n → journals_of cores ++ (a ∷ rest) ≡ areas
+      → (a.core ≡ n) × (a.sizes ≡ sizes) × IsReady a
+  own_journal sizes cores rest areas a n each long is =
+      subst (λ o. IfSome o (λ (area : AreaView D). (area.core ≡ n) × (area.sizes ≡ sizes) × IsReady area)) (at_front (journals_of cores) rest areas a n (length_journals cores ∙ long) is) (each n)
+    where
+      length_journals : (cs : List (CoreState D)) → length (journals_of cs) ≡ length cs
+      length_journals [] = refl
+      length_journals (c ∷ cs) = ap suc (length_journals cs)
+
+  pub journals_long : (cs : List (CoreState D)) → length (journals_of cs) ≡ length cs
+  journals_long [] = refl
+  journals_long (c ∷ cs) = ap suc (journals_long cs)
+
+  pub journals_more : (cores : List (CoreState D)) (c : CoreState D) (rest areas : List (AreaView D)) (a : AreaView D) → c.area ≡ a → journals_of cores ++ (a ∷ rest) ≡ areas → journals_of (cores ++ c ∷ []) ++ rest ≡ areas
+  journals_more cores c rest areas a own is =
+      ap (λ l. l ++ rest) (map-append (λ (d : CoreState D). d.area) cores (c ∷ [])) ∙ append_assoc (journals_of cores) (c.area ∷ []) rest
+      ∙ ap (λ (b : AreaView D). journals_of cores ++ (b ∷ rest)) own ∙ is
