@@ -16,6 +16,9 @@ module _ {X : Type 0} where
   turned xs ys ws vs a ys_is vs_is =
       ap (λ v. xs ++ reverse v) vs_is ∙ ap (λ r. xs ++ r) (reverse-append ws (a ∷ [])) ∙ sym (append_assoc xs (a ∷ []) (reverse ws)) ∙ ap (λ y. y ++ reverse ws) (sym ys_is)
 
+  pub next_out : (js ws vs all : List X) (a : X) → js ++ reverse vs ≡ all → vs ≡ ws ++ a ∷ [] → js ++ (a ∷ reverse ws) ≡ all
+  next_out js ws vs all a is out = ap (λ r. js ++ r) (sym (ap reverse out ∙ reverse-append ws (a ∷ []))) ∙ is
+
   pub nil_right : (xs : List X) → xs ++ [] ≡ xs
   nil_right [] = refl
   nil_right (x ∷ xs) = ap (λ l. x ∷ l) (nil_right xs)
@@ -80,3 +83,10 @@ module _ {D : Type 0} where
   journals_more cores c rest areas a own is =
       ap (λ l. l ++ rest) (map-append (λ (d : CoreState D). d.area) cores (c ∷ [])) ∙ append_assoc (journals_of cores) (c.area ∷ []) rest
       ∙ ap (λ (b : AreaView D). journals_of cores ++ (b ∷ rest)) own ∙ is
+
+  -- one core is closed, and its journal goes behind others
+  pub behind : (places later : List (AreaView D)) (left rest : List (CoreState D)) (c : CoreState D) (a : AreaView D) → a ≡ c.area → later ≡ places ++ a ∷ [] → left ≡ c ∷ rest
+      → later ++ journals_of rest ≡ places ++ journals_of left
+  behind places later left rest c a own put out =
+      ap (λ l. l ++ journals_of rest) put ∙ append_assoc places (a ∷ []) (journals_of rest) ∙ ap (λ (b : AreaView D). places ++ (b ∷ journals_of rest)) own
+      ∙ ap (λ (l : List (CoreState D)). places ++ journals_of l) (sym out)
