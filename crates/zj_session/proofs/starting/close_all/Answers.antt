@@ -1,9 +1,8 @@
-use Rattle.std.proofs.Common.{◌≡◌, ◌++◌, ◌∙◌, [], ◌∷◌, None, sym, ap, subst, arith, length}
+use Rattle.std.proofs.Common.{◌≡◌, ◌∙◌, None, ap, subst, arith, length}
 use Rattle.std.proofs.lemmas.List.Elements.{All-head, All-tail}
 use Rattle.std.specs.Vec.Iter.{into_iter_items}
-use Rattle.zj_area.specs.Journal.{AreaView}
 use Rattle.zj_core.specs.Core.{CoreState}
-use Rattle.zj_session.specs.Playing.{AreIdle, journals_of}
+use Rattle.zj_session.specs.Playing.{AreIdle}
 use Rattle.zj_session.proofs.Cores.{behind}
 use Rattle.zj_session.proofs.starting.close_all.Goals as goal
 

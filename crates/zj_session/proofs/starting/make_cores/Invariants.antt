@@ -1,4 +1,4 @@
-use Rattle.std.proofs.Common.{◌≡◌, ◌+◌, ◌-◌, ◌++◌, length, reverse}
+use Rattle.std.proofs.Common.{◌≡◌, ◌+◌, ◌-◌, ◌++◌, reverse}
 use Rattle.std.specs.Vec.{vec_capacity, vec_len}
 use Rattle.zj_turns.specs.Passes.{dealt}
 use Rattle.zj_session.specs.Playing.{journals_of}
