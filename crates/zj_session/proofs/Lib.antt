@@ -1,7 +1,10 @@
 pub mod Acts
 pub mod Contents
+pub mod Cores
+pub mod Fresh
 pub mod Growing
 pub mod Handles
+pub mod Least
 pub mod Line
 pub mod Lists
 pub mod Moving
