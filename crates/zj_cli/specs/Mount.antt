@@ -1,11 +1,14 @@
 -- The tree of an image that stands on a shelf and whose journals hold no record, and why there is none.
-use Rattle.std.specs.Prelude.{◌≡◌, ◌⊎◌, ℕ, ◌<◌, List, [], ◌∷◌}
+use Rattle.std.specs.Prelude.{◌≡◌, ◌⊎◌, ℕ, ◌<◌, List, [], ◌∷◌, length}
 use Rattle.zj_dev.specs.Shelf.{ShelfView}
 use Rattle.zj_dev.specs.declared.device.Device.TheVariants as devices
+use Rattle.zj_home.specs.Made.{HoldsBlocks}
 use Rattle.zj_home.specs.Super.{Super}
 use Rattle.zj_tx.specs.Record.{Record}
 use Rattle.zj_tree.specs.Tree.{FileTree}
-use Rattle.zj_mount.specs.Image.{HasHome, HasJournals, OfDevice, ShowsIn}
+use Rattle.zj_layout.specs.Image.{State}
+use Rattle.zj_layout.specs.Shows.{Shows}
+use Rattle.zj_mount.specs.Image.{HasHome, HasJournals, OfDevice}
 use Rattle.zj_mount.specs.Mounting.{FailsIn}
 use Rattle.zj_mount.specs.Set.{home_name}
 use Rattle.zj_cli.specs.declared.status.ImageFault.{ImageFault}
@@ -22,10 +25,11 @@ pub record IsAtRest (names : ShelfView) (super : Super) : Type 0 where
   pub journals : HasJournals names super super.sizes.cores
   pub empty : HoldNothing names super super.sizes.cores
 
--- Such an image whose home shows the tree.
-pub record Mounts (names : ShelfView) (super : Super) (tree : FileTree) : Type 0 where
+-- Such an image whose home holds these blocks, which show the tree.
+pub record Mounts (names : ShelfView) (super : Super) (start : State) (tree : FileTree) : Type 0 where
   pub rests : IsAtRest names super
-  pub shows : OfDevice (names home_name) (λ image. ShowsIn super.sizes image tree)
+  pub held : OfDevice (names home_name) (λ image. HoldsBlocks image start (length start))
+  pub shows : Shows super.sizes start tree
 
 -- All journals hold records that follow one another, and this is the first that holds one.
 pub record IsFirstUsed (names : ShelfView) (super : Super) (core : ℕ) : Type 0 where

@@ -40,14 +40,15 @@ fn refuse_unbuilt(lines: &[Line]) -> Result<(), Fault>
     Ok(())
 }
 
-/// Whether an act is built: each whole call is, but for an fsync, which waits for receipts.
+/// Whether an act is built: each whole call is, but for an fsync, which waits for receipts, and each step of a handle, but for
+/// a look.
 fn is_built(act: &Act) -> bool
     ensures { result ≡ is_built act.now }
 {
     match act {
         Act::Call(Call::Fsync { .. }) => false,
-        Act::Call(_) => true,
-        _ => false,
+        Act::Call(_) | Act::Begin(_) | Act::Take | Act::Stop | Act::Drop => true,
+        Act::Look | Act::Commit | Act::Sync | Act::Checkpoint => false,
     }
 }
 

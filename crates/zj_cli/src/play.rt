@@ -1,20 +1,23 @@
-//! `play`: the calls of a schedule in order, each on the blocks that those before it left.
+//! `play`: the lines of a schedule in order, each on its core.
 
-ghost use Rattle.std.specs.Prelude.{◌≡◌, ◌≢◌, ◌⊎◌, ◌++◌, ℕ, IfErr, IfOk, IsErr, OnOk, OnErr, length};
+ghost use Rattle.std.specs.Prelude.{◌≡◌, ◌≢◌, ◌⊎◌, ℕ, [], IfErr, IfOk, IsErr, OnErr, length};
 ghost use Rattle.std.specs.List.{flat_map};
 ghost use Rattle.std.specs.Result.{result_err};
 ghost use Rattle.zj_dev.specs.Disk.{OnlyReads};
 ghost use Rattle.zj_dev.specs.Shelf.{ShelfView};
-ghost use Rattle.zj_tree.specs.Apply.{apply};
 ghost use Rattle.zj_tree.specs.Tree.{FileTree};
-ghost use Rattle.zj_layout.specs.Shows.{Shows, limits_of};
+ghost use Rattle.zj_layout.specs.Image.{State};
+ghost use Rattle.zj_layout.specs.Shows.{Shows};
 ghost use Rattle.zj_script.specs.Answers.{answer_text};
 ghost use Rattle.zj_mount.specs.declared.fault.MountFault.{MountFault};
 ghost use Rattle.zj_mount.specs.Mounting.{AreInOrder, HasTree, IsMountCause};
+ghost use Rattle.zj_mount.specs.Opening.{AllOpened};
 ghost use Rattle.zj_mount.specs.Scanning.{AreRead};
+ghost use Rattle.zj_session.specs.Playing.{journals_of};
+ghost use Rattle.zj_session.specs.Service.{IsService};
 ghost use Rattle.zj_cli.specs.declared.status.Fault.TheVariants as faults;
 ghost use Rattle.zj_cli.specs.Faults.{fault_of_mounting};
-ghost use Rattle.zj_cli.specs.Play.{RunsPlay, ScriptEnds, answer_to, answers_from, calls_of};
+ghost use Rattle.zj_cli.specs.Play.{RunsPlay, ScriptEnds};
 ghost use Rattle.zj_cli.specs.Tool as tool;
 ghost use Rattle.zj_cli.specs.Tool.{IsBeforeWriting};
 
@@ -24,13 +27,13 @@ use crate::stream::{read_whole, write_whole};
 use std::alloc::{AllocError, Global};
 use zj_dev::{Disk, Shelf, Sink, Source};
 use zj_home::Home;
-use zj_mount::{Areas, close_all, mount, open_all};
-use zj_script::{Act, Answer, Form, Line, write_answer};
-use zj_tree::{Bytes, Call};
-use zj_volume::Volume;
+use zj_mount::{Areas, Set, close_all, mount, open_all};
+use zj_script::write_answer;
+use zj_session::{Service, Transcript, play as play_lines};
+use zj_tree::Bytes;
 
-/// Reads a schedule, makes its calls on the blocks of the image on a shelf, and writes their answers. It writes no device, and
-/// all that it opened is closed again.
+/// Reads a schedule, plays it over the image on a shelf, and writes the answers. It writes no device, and all that it opened is
+/// closed again.
 ///
 /// The first fault in this order counts: opening, reading the devices, the input, the schedule, writing to `out`, closing.
 pub fn play<H: Shelf, S: Source, K: Sink>(
@@ -45,91 +48,85 @@ pub fn play<H: Shelf, S: Source, K: Sink>(
         (result_err result) }
     ensures unwritten { IfErr result (λ fault. IsBeforeWriting tool.Play fault → out.new ≡ out.old) }
 {
-    let mut set = open_all(alloc, shelf)?;
-    let played = play_set(alloc, &mut set.home, &mut set.areas, input, out);
-    let closed = close_all(shelf, set).map_err(Fault::from);
+    let Set { mut home, areas } = open_all(alloc, shelf)?;
+    let (areas, played) = play_set(alloc, &mut home, areas, input, out);
+    let closed = close_all(shelf, Set { home, areas }).map_err(Fault::from);
     played.and(closed)
 }
 
-/// Plays a schedule from the tree on that an image shows which was opened.
+/// Plays a schedule from the tree on that an image shows which was opened. Gives the journals back.
 fn play_set<D: Disk, S: Source, K: Sink>(
     alloc: Global,
     home: &mut Home<D>,
-    areas: &mut Areas<D>,
+    areas: Areas<D>,
     input: &mut S,
     out: &mut K,
-) -> Result<(), Fault>
-    requires { AreInOrder home.old.told areas.old.areas }
+) -> (Areas<D>, Result<(), Fault>)
+    requires in_order { AreInOrder home.old.told areas.areas }
+    requires opened { AllOpened home.old.told areas.areas }
     ensures told { home.new.told ≡ home.old.told }
     ensures home_read { OnlyReads (D.view home.old.device) (D.view home.new.device) }
-    ensures read { AreRead D.view areas.old.areas areas.new.areas }
-    ensures count { length areas.new.areas ≡ length areas.old.areas }
-    ensures ends { ((tree : FileTree) × HasTree D.view home.old.told home.old.device areas.old.areas tree
-        × ((names now : ShelfView) (faults since : ℕ) → ScriptEnds home.old.told.sizes.cores (limits_of home.old.told.sizes) tree
+    ensures read { AreRead D.view areas.areas result.0.areas }
+    ensures count { length result.0.areas ≡ length areas.areas }
+    ensures ends { ((start : State) × (tree : FileTree) × HasTree D.view home.old.told home.old.device areas.areas start tree
+        × ((names now : ShelfView) (faults since : ℕ) → ScriptEnds home.old.told.sizes start tree
         (record { left = S.left input.old; held = K.held out.old; names = names; input_faults = S.faults input.old; output_faults = K.faults out.old; shelf_faults = faults })
         (record { left = S.left input.new; held = K.held out.new; names = now; input_faults = S.faults input.new; output_faults = K.faults out.new; shelf_faults = since })
-        (result_err result)))
-        ⊎ (IfErr result (λ fault. (told : MountFault) × (fault ≡ fault_of_mounting told) × IsMountCause D.view home.old.told home.old.device home.new.device areas.old.areas areas.new.areas told) × (IsErr result) × (input.new ≡ input.old) × (out.new ≡ out.old)) }
-    ensures unwritten { OnErr result (result ≢ Err faults.Output → out.new ≡ out.old) }
+        (result_err result.1)))
+        ⊎ (IfErr result.1 (λ fault. (told : MountFault) × (fault ≡ fault_of_mounting told) × IsMountCause D.view home.old.told home.old.device home.new.device areas.areas result.0.areas told) × (IsErr result.1) × (input.new ≡ input.old) × (out.new ≡ out.old)) }
+    ensures unwritten { OnErr result.1 (result.1 ≢ Err faults.Output → out.new ≡ out.old) }
 {
-    let recovered = mount(alloc, home, areas)?;
-    let volume = Volume::new(*recovered.sizes(), recovered.into_blocks());
-    play_script(alloc, volume, input, out)
+    let mut areas = areas;
+    let recovered = match mount(alloc, home, &mut areas) {
+        Ok(recovered) => recovered,
+        Err(fault) => return (areas, Err(fault.into())),
+    };
+    match Service::start(alloc, &recovered, areas) {
+        Ok(mut service) => {
+            let cores = recovered.sizes().cores();
+            let played = play_schedule(alloc, cores, &mut service, home, input, out);
+            (service.end(), played)
+        }
+        Err(areas) => (areas, Err(Fault::Memory)),
+    }
 }
 
-/// Reads a schedule for the cores of a volume, makes its calls there, and writes their answers.
-fn play_script<S: Source, K: Sink>(
+/// Reads a schedule for the cores of a service that was just started, plays it there, and writes the answers.
+fn play_schedule<D: Disk, S: Source, K: Sink>(
     alloc: Global,
-    volume: Volume,
+    cores: u32,
+    service: &mut Service<D>,
+    home: &mut Home<D>,
     input: &mut S,
     out: &mut K,
 ) -> Result<(), Fault>
-    ensures ends { (tree : FileTree) → Shows volume.sizes volume.state tree → (names now : ShelfView) (faults since : ℕ) → ScriptEnds volume.sizes.cores (limits_of volume.sizes) tree
+    requires cores { (cores ≡ service.old.cache.sizes.cores) × (length service.old.cores ≡ cores) }
+    requires fresh { IsService service.old.cache service.old.cores [] }
+    ensures ends { (tree : FileTree) → Shows service.old.cache.sizes service.old.cache.start tree → (names now : ShelfView) (faults since : ℕ) → ScriptEnds service.old.cache.sizes service.old.cache.start tree
         (record { left = S.left input.old; held = K.held out.old; names = names; input_faults = S.faults input.old; output_faults = K.faults out.old; shelf_faults = faults })
         (record { left = S.left input.new; held = K.held out.new; names = now; input_faults = S.faults input.new; output_faults = K.faults out.new; shelf_faults = since })
         (result_err result) }
+    ensures journals { journals_of service.new.cores ≡ journals_of service.old.cores }
+    ensures home { home.new ≡ home.old }
     ensures unwritten { OnErr result (result ≢ Err faults.Output → out.new ≡ out.old) }
 {
     let text = read_whole(alloc, input)?;
-    let schedule = read_built(alloc, volume.sizes().cores(), &text)?;
-    let answers = answer_lines(alloc, volume, schedule.as_slice())?;
+    let schedule = read_built(alloc, cores, &text)?;
+    let mut transcript = Transcript::new(alloc);
+    let _ended = play_lines(alloc, service, home, &schedule, &mut transcript)?;
+    let answers = spell_answers(alloc, &transcript)?;
     write_whole(out, answers.as_slice())
 }
 
-/// The answers to the lines, whose calls are made on a volume.
-fn answer_lines(alloc: Global, volume: Volume, lines: &[Line]) -> Result<Bytes, AllocError>
-    ensures { IfOk result (λ out. (tree : FileTree) → Shows volume.sizes volume.state tree → out ≡ flat_map answer_text (answers_from (limits_of volume.sizes) tree 0 (calls_of lines.now))) }
+/// The answers as text.
+fn spell_answers(alloc: Global, transcript: &Transcript) -> Result<Bytes, AllocError>
+    ensures { IfOk result (λ text. text ≡ flat_map answer_text transcript.now.answers) }
 {
-    let mut volume = volume;
-    let mut out = Bytes::new(alloc);
-    let mut ticket = 0;
-    for line in lines {
-        if let Act::Call(call) = &line.act {
-            answer_call(alloc, &mut volume, ticket, line, call, &mut out)?;
-            ticket += 1;
+    let mut text = Bytes::new(alloc);
+    for i in 0..transcript.len() {
+        if let Some(answer) = transcript.at(i) {
+            write_answer(answer, &mut text)?;
         }
     }
-    Ok(out)
-}
-
-/// Makes the call of a line, and adds its answer.
-fn answer_call(
-    alloc: Global,
-    volume: &mut Volume,
-    ticket: u64,
-    line: &Line,
-    call: &Call,
-    out: &mut Bytes,
-) -> Result<(), AllocError>
-    ensures answer { OnOk result ((tree : FileTree) → Shows volume.old.sizes volume.old.state tree → out.new ≡ out.old ++ answer_text (answer_to (limits_of volume.old.sizes) tree ticket (line.now, call.now))) }
-    ensures shows { OnOk result ((tree : FileTree) → Shows volume.old.sizes volume.old.state tree → Shows volume.new.sizes volume.new.state (apply (limits_of volume.old.sizes) call.now tree).1) }
-    ensures sizes { volume.new.sizes ≡ volume.old.sizes }
-{
-    let reply = volume.apply(alloc, call)?;
-    let answer = Answer {
-        line: line.number,
-        core: line.core,
-        form: Form::Drew { ticket, reply },
-    };
-    write_answer(&answer, out)
+    Ok(text)
 }

@@ -1,5 +1,6 @@
 pub mod Finished
 pub mod Given
+pub mod Going
 pub mod Knowing
 pub mod Meeting
 pub mod Needing

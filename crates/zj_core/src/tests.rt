@@ -120,28 +120,24 @@ fn by_steps(
     }
 }
 
-/// What two cores were answered, of which the first has a handle open when the second meets it.
+/// What two cores were answered, of which the first has a handle open when the second calls.
 #[derive(Debug, PartialEq, Drop)]
-struct Meeting {
+struct Refusal {
     took: Option<u32>,
-    away: (bool, bool),
     refused: Result<Done, CallFault>,
-    dropped: bool,
     made: Result<Done, CallFault>,
 }
 
-/// A handle of the first core takes a block; the second core meets it, makes the same call, and parts. Then the handle is
-/// dropped, and the second core makes its call.
-fn meets(
+/// A handle of the first core takes a block; the second core makes the same call, and again once the handle was dropped.
+fn refused(
     cache: &Cache<ShowsTree>,
     one: &mut Core<MemDisk>,
     two: &mut Core<MemDisk>,
     call: &Call,
-) -> Option<Meeting>
+) -> Option<Refusal>
     requires one { IsOf cache.now one.old }
     requires two { IsOf cache.now two.old }
     requires idle { (one.old.begun ≡ None) × (two.old.begun ≡ None) }
-    requires peer { IsPeer two.old.pass one.old.pass false }
 {
     if one.begin(call).is_err() {
         return None;
@@ -150,18 +146,28 @@ fn meets(
         Ok(Some(block)) => Some(block.0),
         _ => None,
     };
-    two.meet(cache, one);
-    let away = (one.away(), two.away());
     let refused = two.call(cache, call);
-    two.part(cache, one);
     one.drop_handle(cache);
-    Some(Meeting {
+    Some(Refusal {
         took,
-        away,
         refused,
-        dropped: !one.open_handle(),
         made: two.call(cache, call),
     })
+}
+
+/// The first core meets the second, and parts from it. Answers whether the second is away, before and after.
+fn meets(
+    cache: &Cache<ShowsTree>,
+    one: &mut Core<MemDisk>,
+    two: &mut Core<MemDisk>,
+) -> (bool, bool)
+    requires one { IsOf cache.now one.old }
+    requires peer { IsPeer one.old.pass two.old.pass false }
+{
+    one.meet(cache, two);
+    let away = two.away();
+    one.part(cache, two);
+    (away, two.away())
 }
 
 /// Makes a call until it was made so often, and tries again where another core has a block. Answers how often it was made.
@@ -171,14 +177,13 @@ fn call_many(cache: &Cache<ShowsTree>, mut core: Core<MemDisk>, call: &Call) -> 
     ensures of { IsOf cache.entry.now result.0 }
     ensures idle { result.0.begun ≡ None }
 {
-    let mut made = 0;
+    let mut made = 0u32;
     for _ in 0..u32::MAX {
         if made == MANY {
             break;
         }
-        if core.call(cache, call).is_ok() {
-            made += 1;
-        }
+        let done = core.call(cache, call);
+        made = made.wrapping_add(u32::from(done.is_ok()));
     }
     (core, made)
 }
@@ -228,17 +233,28 @@ fn a_handle_by_steps(rt: HostRuntime) -> Result<(), Fail> {
 fn one_core_is_refused_by_another(rt: HostRuntime) -> Result<(), Fail> {
     let alloc = rt.alloc();
     let mut made = two_cores(alloc)?;
-    let met = meets(&made.cache, &mut made.one, &mut made.two, &mkdir(alloc, b"/a")?);
-    assert_eq!(rt; met, Some(Meeting {
+    let call = mkdir(alloc, b"/a")?;
+    let answers = refused(&made.cache, &mut made.one, &mut made.two, &call);
+    let busy = CallFault::Busy {
+        block: 1,
+        holder: 0,
+    };
+    let done = Done {
+        ticket: 0,
+        reply: Reply::Done,
+    };
+    assert_eq!(rt; answers, Some(Refusal {
         took: Some(1),
-        away: (true, false),
-        refused: Err(CallFault::Busy { block: 1, holder: 0 }),
-        dropped: true,
-        made: Ok(Done {
-            ticket: 0,
-            reply: Reply::Done,
-        }),
+        refused: Err(busy),
+        made: Ok(done),
     }));
+    Ok(())
+}
+
+#[test]
+fn a_core_that_was_met_is_away(rt: HostRuntime) -> Result<(), Fail> {
+    let mut made = two_cores(rt.alloc())?;
+    assert_eq!(rt; meets(&made.cache, &mut made.one, &mut made.two), (true, false));
     Ok(())
 }
 

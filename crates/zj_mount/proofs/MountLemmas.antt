@@ -84,10 +84,6 @@ module _ {D : Type 0} (view : D → DiskView) (areas : List (AreaView D)) (count
 
 -- ---- the tree, or why there is none
 
-pub shows_in : (o : Option (List ℕ)) (sizes : Numbers) (blocks : List (List ℕ)) (tree : FileTree) → IfSome o (λ image. HoldsBlocks image blocks (length blocks)) → Shows sizes blocks tree → IfSome o (λ image. ShowsIn sizes image tree)
-shows_in None sizes blocks tree held shows = tt
-shows_in (Some image) sizes blocks tree held shows = record { blocks = blocks; held = held; shows = shows }
-
 pub fails_in : (o : Option (List ℕ)) (sizes : Numbers) (blocks : List (List ℕ)) (rule block : ℕ) → length blocks ≡ sizes.blocks → IfSome o (λ image. HoldsBlocks image blocks (length blocks)) → FailsFirst sizes (image_of sizes blocks) rule block → IfSome o (λ image. FailsIn sizes image rule block)
 fails_in None sizes blocks rule block many held fails = tt
 fails_in (Some image) sizes blocks rule block many held fails = record { blocks = blocks; many = many; held = held; fails = fails }

@@ -12,11 +12,11 @@ use Rattle.zj_area.specs.Journal.{AreaView}
 use Rattle.zj_tree.specs.Tree.{FileTree}
 use Rattle.zj_layout.specs.declared.faults.TreeFault.{TreeFault}
 use Rattle.zj_layout.specs.declared.faults.TreeFault.TheVariants as trees
-use Rattle.zj_layout.specs.Image.{image_of}
+use Rattle.zj_layout.specs.Image.{State, image_of}
+use Rattle.zj_layout.specs.Shows.{Shows}
 use Rattle.zj_layout.specs.Rules.{FailsFirst}
 use Rattle.zj_mount.specs.declared.fault.MountFault.{MountFault}
 use Rattle.zj_mount.specs.declared.fault.MountFault.TheVariants as faults
-use Rattle.zj_mount.specs.Image.{ShowsIn}
 use Rattle.zj_mount.specs.Scanning.{AreCounted, AreaHolds, FailsAt, IsDamagedAt}
 
 -- An area is the journal of that core of an image: with the image's sizes, and from home's tail of that core on.
@@ -45,10 +45,11 @@ fault_of_tree trees.NoMemory = faults.NoMemory
 abbrev pub AreEmpty : {D : Type 0} → (D → DiskView) → List (AreaView D) → ℕ → Type 0
 AreEmpty view areas count = (core : ℕ) → core < count → IsSomeAnd (slice_get areas core) (λ a. AreaHolds view a [])
 
--- No area holds a record, and home's blocks show the tree.
-pub record HasTree {D : Type 0} (view : D → DiskView) (super : Super) (home : D) (areas : List (AreaView D)) (tree : FileTree) : Type 0 where
+-- No area holds a record, and home holds these blocks, which show the tree.
+pub record HasTree {D : Type 0} (view : D → DiskView) (super : Super) (home : D) (areas : List (AreaView D)) (blocks : State) (tree : FileTree) : Type 0 where
   pub empty : AreEmpty view areas (length areas)
-  pub shows : IfSome (view home).bytes (λ image. ShowsIn super.sizes image tree)
+  pub held : IfSome (view home).bytes (λ image. HoldsBlocks image blocks (length blocks))
+  pub shows : Shows super.sizes blocks tree
 
 -- This area is the first that holds a record, and all hold some or none.
 pub record HoldsFirst {D : Type 0} (view : D → DiskView) (areas : List (AreaView D)) (core : ℕ) : Type 0 where

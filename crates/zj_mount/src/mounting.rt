@@ -42,10 +42,8 @@ pub fn mount<D: Disk>(
     ensures sizes { IfOk result (λ recovered. recovered.sizes ≡ home.old.told.sizes) }
     ensures many { IfOk result (λ recovered. length recovered.journals ≡ home.old.told.sizes.cores) }
     ensures journals { IfOk result (λ recovered. (core : ℕ) → core < home.old.told.sizes.cores → slice_get recovered.journals core ≡ option_map empty_from (slice_get home.old.told.tails core)) }
-    ensures blocks { IfOk result (λ recovered. IfSome (D.view home.old.device).bytes (λ image. HoldsBlocks image recovered.blocks (length recovered.blocks))) }
-    ensures shows { IfOk result (λ recovered. Shows home.old.told.sizes recovered.blocks recovered.tree.tree) }
     ensures limits { IfOk result (λ recovered. recovered.tree.limits ≡ limits_of home.old.told.sizes) }
-    ensures tree { IfOk result (λ recovered. HasTree D.view home.old.told home.old.device areas.old.areas recovered.tree.tree) }
+    ensures tree { IfOk result (λ recovered. HasTree D.view home.old.told home.old.device areas.old.areas recovered.blocks recovered.tree.tree) }
 
     // The areas are then ready.
     ensures ready { OnOk result (AreReady areas.old.areas areas.new.areas (length areas.old.areas)) }

@@ -10,6 +10,7 @@ pub mod Outcomes
 pub mod Resting
 pub mod Right
 pub mod Roots
+pub mod Running
 pub mod Schedules
 pub mod Seen
 pub mod Serving

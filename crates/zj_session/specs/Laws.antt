@@ -1,6 +1,9 @@
 -- What is so of cores that answer lines.
-use Rattle.std.specs.Prelude.{◌≡◌, ℕ, List, [], ◌∷◌, ◌++◌, cond, length, Some, slice_get}
+use Rattle.std.specs.Prelude.{◌≡◌, ℕ, List, [], ◌∷◌, ◌++◌, cond, length, IsSome, Some, slice_get}
+use Rattle.std.specs.List.{All}
 use Rattle.zj_block.specs.Sizes.{Numbers}
+use Rattle.zj_tree.specs.Tree.{FileTree}
+use Rattle.zj_layout.specs.Shows.{Shows}
 use Rattle.zj_history.specs.Operation.{Operation}
 use Rattle.zj_history.specs.State.{BlockState, after}
 use Rattle.zj_history.specs.Legal.{IsLegal}
@@ -9,7 +12,7 @@ use Rattle.zj_script.specs.declared.answer.Form.{Form}
 use Rattle.zj_turns.specs.Passes.{CacheParameters}
 use Rattle.zj_core.specs.Core.{CoreState, IsSteady}
 use Rattle.zj_session.specs.Answering.{IsAnswered}
-use Rattle.zj_session.specs.Played.{Fit, IsRight, Played, handle_after, has_ticket}
+use Rattle.zj_session.specs.Played.{Fit, IsRight, IsRun, Played, handle_after, has_ticket}
 use Rattle.zj_session.specs.Service.{IsServing}
 
 -- A history has one operation more where a form has a ticket, and else none.
@@ -32,3 +35,8 @@ FitsFurther = (sizes : Numbers) (start : BlockState) (before : List Operation) (
     → Fit sizes start before played history → line.core ≡ Some core → IsLegal start later → GrowsWith history later form
     → IsRight sizes (after start history) later (length history) (handle_after played) core line.act form
     → Fit sizes start before (played ++ (line, form) ∷ []) later
+
+-- Where lines and answers fit a history from blocks on that show a tree, the replies are the plain service's in turn.
+abbrev pub FitIsRun : Type 0
+FitIsRun = (sizes : Numbers) (start : BlockState) (tree : FileTree) (played : List Played) (history : List Operation)
+    → Shows sizes start tree → All (λ p. IsSome p.0.core) played → Fit sizes start [] played history → IsRun sizes tree played

@@ -8,8 +8,10 @@ use Rattle.zj_history.specs.State.{BlockState, after}
 use Rattle.zj_history.specs.Legal.{IsLegal}
 use Rattle.zj_tree.specs.declared.call.Call.{Call}
 use Rattle.zj_tree.specs.declared.call.Reply.{Reply}
+use Rattle.zj_tree.specs.Tree.{FileTree}
+use Rattle.zj_layout.specs.Shows.{limits_of}
 use Rattle.zj_inode.specs.Performs.{Performs}
-use Rattle.zj_inode.specs.Run.{contents_found}
+use Rattle.zj_inode.specs.Run.{contents_found, replies_from}
 use Rattle.zj_script.specs.declared.line.Act.{Act}
 use Rattle.zj_script.specs.declared.line.Act.TheVariants as acts
 use Rattle.zj_script.specs.declared.line.Line.{Line}
@@ -137,3 +139,12 @@ pub record Fit (sizes : Numbers) (start : BlockState) (before : List Operation) 
   pub tickets : length history ≡ length before + tickets_in played
   pub each : (k core : ℕ) (p : Played) → slice_get played k ≡ Some p → p.0.core ≡ Some core
       → IsRight sizes (after start (take (length before + tickets_in (take k played)) history)) history (length before + tickets_in (take k played)) (handle_after (take k played)) core p.0.act p.1
+
+-- The calls that were made, by their tickets, and the replies that were answered, are the plain service's run from a tree on.
+pub record IsRun (sizes : Numbers) (tree : FileTree) (played : List Played) : Type 0 where
+  pub calls : List Call
+  pub replies : List Reply
+  pub many : length calls ≡ tickets_in played
+  pub each : (k core ticket : ℕ) (line : Line) (reply : Reply) → slice_get played k ≡ Some (line, forms.Drew ticket reply) → line.core ≡ Some core
+      → (slice_get calls ticket ≡ call_made line.act (handle_after (take k played) core)) × (slice_get replies ticket ≡ Some reply)
+  pub run : replies ≡ replies_from (limits_of sizes) tree calls

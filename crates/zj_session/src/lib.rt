@@ -1,13 +1,25 @@
-//! Several cores together: each line of a schedule is answered on its core, which first meets all others.
+//! Several cores over one block cache, which play the lines of a schedule.
 //!
-//! Each core knows of no core but its own between two lines (`specs/Service.antt`). It promises so far:
+//! A `Service` has a core for each journal of an image that was mounted. `play` runs each line on its core, which first meets every
+//! other one and parts from each afterwards: so between two lines each core knows of no core but its own, and while it answers it
+//! knows what all did and hold. It promises:
 //!
-//! - `answer_line` answers a whole call, or a step of a handle, on the core at a place (clause `answered`). That core first takes in
-//!   what each other core has done and holds. Knowing it, the act is done and answered (`specs/Answering.antt`): a call or a stop draws a
-//!   ticket, or is busy with a block that another core holds; and an act that doesn't suit the core is told so and changes nothing.
-//!   Afterwards the core knows of no core but its own again, and all other cores are as they were.
-//! - The core has stored into none of the blocks that it holds then, and drawn for none (clause `steady`).
-//! - `AllocError` leaves all cores as they were, or the handle that was open on the core is dropped (clause `err`).
+//! - **The lines, the answers and one history fit** (`play`, clauses `plays` and `stops`, `Fit`): the history is legal from the blocks
+//!   on that the cache was made with; the answers that have a ticket are its operations, in their order, each of its line's core,
+//!   and each performs the line's call, or that of the handle which the line stops, with the reply answered. Every other
+//!   answer is right after the operations of the lines before it (`IsRight`): `order` exactly where the act doesn't suit the core;
+//!   `busy` exactly where the act takes blocks and the handle of another core has that of the root's node, which each call takes
+//!   first; `took` names a block that the call may take in every state that shows a tree and has what the handle took before; `ready`
+//!   comes where the call is performed on what was taken.
+//! - Replies that fit are the plain service's in turn (`laws::fit_is_run`).
+//! - `play` ends with no handle open, also where memory runs out: then the answers are those of the lines so far. It touches no
+//!   device.
+//! - `Service::start` makes a service whose history is empty, over the blocks that were recovered; `Service::end` gives the
+//!   journals back as they are.
+//! - `answer_line` answers one line (clause `answered`, `IsAnswered`); after it the cores go on to serve calls, and the answer is right
+//!   (`laws::answers_are_right`); lines that fit a history go on to fit (`laws::fits_further`).
+//!
+//! There is no lock, and no call waits.
 #![tactic(auto)]
 
 mod answering;

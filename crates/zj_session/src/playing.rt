@@ -21,7 +21,7 @@ use zj_script::{Answer, Line, Schedule};
 use zj_turns::Cache;
 
 /// Why playing ended early.
-#[derive(Debug, PartialEq, Eq)]
+#[derive(Debug, PartialEq, Eq, Drop)]
 pub enum Stopped {
     /// A device failed in a checkpoint.
     Device(Device),
@@ -39,7 +39,7 @@ pub enum Stopped {
 }
 
 /// How playing ended.
-#[derive(Debug, PartialEq, Eq)]
+#[derive(Debug, PartialEq, Eq, Drop)]
 pub struct Ended {
     /// `None` where all lines were played.
     pub fault: Option<Stopped>,
