@@ -1,5 +1,5 @@
 -- A core goes on as one of its cache's, whatever it was answered.
-use Rattle.std.proofs.Common.{◌≡◌, ◌≢◌, ℕ, true, false, Option, Some, None, IfSome, IsSome, Result, Ok, Err, refl, sym, ap, ◌∙◌, subst}
+use Rattle.std.proofs.Common.{◌≡◌, ℕ, Option, Some, None, IfSome, IsSome, Result, Ok, Err, sym, ap, ◌∙◌, subst}
 use Rattle.std.specs.Prelude.{IfOk, IfNone, OnOk, OnErr}
 use Rattle.zj_block.specs.declared.numbers.BlockNo.{BlockNo}
 use Rattle.zj_tree.specs.declared.call.Call.{Call}

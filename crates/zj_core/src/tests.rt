@@ -156,11 +156,7 @@ fn refused(
 }
 
 /// The first core meets the second, and parts from it. Answers whether the second is away, before and after.
-fn meets(
-    cache: &Cache<ShowsTree>,
-    one: &mut Core<MemDisk>,
-    two: &mut Core<MemDisk>,
-) -> (bool, bool)
+fn meets(cache: &Cache<ShowsTree>, one: &mut Core<MemDisk>, two: &mut Core<MemDisk>) -> (bool, bool)
     requires one { IsOf cache.now one.old }
     requires peer { IsPeer one.old.pass two.old.pass false }
 {
@@ -218,14 +214,20 @@ fn on_threads<R: Threads + Sync>(rt: &R, made: Two, one: &Call, two: &Call) -> (
 fn a_handle_by_steps(rt: HostRuntime) -> Result<(), Fail> {
     let alloc = rt.alloc();
     let mut made = two_cores(alloc)?;
-    assert_eq!(rt; (made.one.core(), made.one.number(), made.one.left()), (0, 0, 4_294_967_295));
+    assert_eq!(rt;
+        (made.one.core(), made.one.number(), made.one.left()),
+        (0, 0, 4_294_967_295)
+    );
     let (count, done) = by_steps(&made.cache, &mut made.one, &mkdir(alloc, b"/a")?);
     let first = Done {
         ticket: 0,
         reply: Reply::Done,
     };
     assert_eq!(rt; (count, done), (3, Ok(first)));
-    assert_eq!(rt; (made.one.left(), made.one.open_handle()), (4_294_967_294, false));
+    assert_eq!(rt;
+        (made.one.left(), made.one.open_handle()),
+        (4_294_967_294, false)
+    );
     Ok(())
 }
 
@@ -243,18 +245,24 @@ fn one_core_is_refused_by_another(rt: HostRuntime) -> Result<(), Fail> {
         ticket: 0,
         reply: Reply::Done,
     };
-    assert_eq!(rt; answers, Some(Refusal {
-        took: Some(1),
-        refused: Err(busy),
-        made: Ok(done),
-    }));
+    assert_eq!(rt;
+        answers,
+        Some(Refusal {
+            took: Some(1),
+            refused: Err(busy),
+            made: Ok(done),
+        })
+    );
     Ok(())
 }
 
 #[test]
 fn a_core_that_was_met_is_away(rt: HostRuntime) -> Result<(), Fail> {
     let mut made = two_cores(rt.alloc())?;
-    assert_eq!(rt; meets(&made.cache, &mut made.one, &mut made.two), (true, false));
+    assert_eq!(rt;
+        meets(&made.cache, &mut made.one, &mut made.two),
+        (true, false)
+    );
     Ok(())
 }
 

@@ -1,4 +1,4 @@
-use Rattle.std.proofs.Common.{◌≡◌, ap, ◌∙◌}
+use Rattle.std.proofs.Common.{ap, ◌∙◌}
 use Rattle.zj_core.proofs.tests.core_of.Goals as goal
 
 pub new-requires-2-clause-core : goal.new-requires-2-clause-core

@@ -1,4 +1,4 @@
-use Rattle.std.proofs.Common.{◌≡◌, ◌≢◌, ℕ, false, true, List, [], ◌∷◌, ◌++◌, refl, sym, ap, ◌∙◌, subst, true≢false}
+use Rattle.std.proofs.Common.{◌≡◌, ◌≢◌, ℕ, false, List, [], ◌∷◌, ◌++◌, refl, sym, ◌∙◌, subst, true≢false}
 use Rattle.std.proofs.lemmas.List.{same_from_push}
 use Rattle.zj_turns.specs.Views.{blank}
 use Rattle.zj_turns.specs.Passes.{CacheParameters, IsIdle, IsPeer, PassState, dealt, fresh}
