@@ -1,5 +1,5 @@
 -- Lines that fit a history: the calls that were made, by their tickets, are the plain service's run.
-use Rattle.std.proofs.Common.{◌≡◌, ◌≢◌, ◌⊎◌, inl, inr, ⊎_elim, ℕ, zero, suc, ◌+◌, ◌<◌, ◌≤◌, Bool, true, false, true≢false, cond, List, [], ◌∷◌, ◌++◌, length, filter, take, Option, Some, None, IsSome, All, slice_get, refl, sym, ap, ◌∙◌, subst, arith}
+use Rattle.std.proofs.Common.{◌≡◌, ◌⊎◌, inl, inr, ℕ, zero, suc, ◌+◌, ◌<◌, ◌≤◌, Bool, true, false, true≢false, cond, List, [], ◌∷◌, ◌++◌, length, filter, take, Option, Some, None, IsSome, All, slice_get, refl, sym, ap, ◌∙◌, subst, arith}
 use Rattle.std.proofs.lemmas.Bool.{cases_eq}
 use Rattle.std.proofs.lemmas.List.{length-append, take_all}
 use Rattle.std.proofs.lemmas.List.Elements.{filter-append}
@@ -9,8 +9,6 @@ use Rattle.zj_history.specs.Operation.{Operation}
 use Rattle.zj_history.specs.State.{BlockState, after}
 use Rattle.zj_tree.specs.declared.call.Call.{Call}
 use Rattle.zj_tree.specs.declared.call.Reply.{Reply}
-use Rattle.zj_tree.specs.Tree.{FileTree}
-use Rattle.zj_layout.specs.Shows.{Shows}
 use Rattle.zj_layout.proofs.Follow.{none_some, some_is}
 use Rattle.zj_inode.specs.Laws.{HistoryIsRun}
 use Rattle.zj_inode.specs.Performs.{Performs}
@@ -19,7 +17,7 @@ use Rattle.zj_script.specs.declared.line.Line.{Line}
 use Rattle.zj_script.specs.declared.answer.Form.{Form}
 use Rattle.zj_script.specs.declared.answer.Form.TheVariants as forms
 use Rattle.zj_session.specs.Laws.{FitIsRun}
-use Rattle.zj_session.specs.Played.{Fit, IsDrawn, IsRun, Played, Says, call_made, handle_after, has_ticket, tickets_in}
+use Rattle.zj_session.specs.Played.{Fit, IsDrawn, Played, Says, call_made, handle_after, has_ticket, tickets_in}
 use Rattle.zj_session.proofs.Lists.{at_all, at_end, at_seam}
 
 -- ---- lists and forms
