@@ -2,8 +2,8 @@
 //!
 //! A `Core` has a pass of the block cache, its journal, and at most one open handle. It promises:
 //!
-//! - `Core::stop` and `Core::call` that answer Ok add one operation to the history and no other call adds any (clauses `done`,
-//!   `Performed`): it has the ticket answered and the number of the running transaction, it found all that the handle held and
+//! - `Core::stop` and `Core::call` that answer Ok add one operation to the history (clause `done`, `Performed`), and no other call adds
+//!   any, as each says of what the core knows then: it has the ticket answered and the number of the running transaction, it found all that the handle held and
 //!   beside it only blocks that were free and that its call may take, and on them it performs its call with the reply
 //!   answered. One history of the cache has it and all else that the core knows.
 //! - `Core::take` takes the next block that the call needs (`TakesNext`): it isn't held, the call may take it in every state

@@ -15,7 +15,7 @@ fn played(alloc: Global, input: &str) -> Result<Option<Vec<u8>>, AllocError> {
 
 #[test]
 fn handles_take_turns(rt: HostRuntime) -> Result<(), Fail> {
-    let table: [(&str, &str); 10] = [
+    let table: [(&str, &str); 14] = [
         // A handle by steps, beside the whole call.
         ("0 begin mkdir /a\n0 take\n0 take\n0 take\n0 take\n0 stop\n0 mkdir /b\n", "1 0 begun\n2 0 took 1\n3 0 took 0\n4 0 took 3\n5 0 ready\n6 0 0 ok\n7 0 1 ok\n"),
         // Both cores begin; who takes first goes on, in every order of take and stop.
@@ -26,6 +26,22 @@ fn handles_take_turns(rt: HostRuntime) -> Result<(), Fail> {
         (
             "0 begin mkdir /a\n1 begin mkdir /b\n1 take\n0 take\n0 stop\n1 stop\n0 stop\n",
             "1 0 begun\n2 1 begun\n3 1 took 1\n4 0 busy 1 1\n5 0 busy 1 1\n6 1 0 ok\n7 0 1 ok\n",
+        ),
+        (
+            "0 begin mkdir /a\n1 begin mkdir /b\n0 take\n1 take\n1 stop\n0 stop\n",
+            "1 0 begun\n2 1 begun\n3 0 took 1\n4 1 busy 1 0\n5 1 busy 1 0\n6 0 0 ok\n",
+        ),
+        (
+            "0 begin mkdir /a\n1 begin mkdir /b\n1 take\n0 take\n1 stop\n0 stop\n",
+            "1 0 begun\n2 1 begun\n3 1 took 1\n4 0 busy 1 1\n5 1 0 ok\n6 0 1 ok\n",
+        ),
+        (
+            "0 begin mkdir /a\n1 begin mkdir /b\n0 take\n0 stop\n1 take\n1 stop\n",
+            "1 0 begun\n2 1 begun\n3 0 took 1\n4 0 0 ok\n5 1 took 1\n6 1 1 ok\n",
+        ),
+        (
+            "0 begin mkdir /a\n1 begin mkdir /b\n1 take\n1 stop\n0 take\n0 stop\n",
+            "1 0 begun\n2 1 begun\n3 1 took 1\n4 1 0 ok\n5 0 took 1\n6 0 1 ok\n",
         ),
         (
             "0 begin mkdir /a\n1 begin mkdir /a\n0 take\n1 stop\n0 stop\n1 stop\n",
