@@ -7,6 +7,7 @@ pub mod Handles
 pub mod Least
 pub mod Line
 pub mod Lists
+pub mod Mounted
 pub mod Moving
 pub mod Outcomes
 pub mod Right
