@@ -4,10 +4,10 @@ pub mod Cores
 pub mod Fresh
 pub mod Growing
 pub mod Handles
+pub mod Journals
 pub mod Least
 pub mod Line
 pub mod Lists
-pub mod Mounted
 pub mod Moving
 pub mod Outcomes
 pub mod Right

@@ -2,10 +2,6 @@
 //!
 //! Each core knows of no core but its own between two lines (`specs/Service.antt`). It promises so far:
 //!
-//! - `Service::start` makes a core of each journal, over one cache of the blocks that were recovered. They serve calls, and the empty
-//!   history has what all did (clause `service`). Its error gives all journals back, in their order (clause `err`).
-//! - `Service::left` is the least number of tickets that a core may still draw (clauses `at_most`, `least`), and `Service::end` gives the
-//!   journals back.
 //! - `answer_line` answers a whole call, or a step of a handle, on the core at a place (clause `answered`). That core first takes in
 //!   what each other core has done and holds. Knowing it, the act is done and answered (`specs/Answering.antt`): a call or a stop draws a
 //!   ticket, or is busy with a block that another core holds; and an act that doesn't suit the core is told so and changes nothing.

@@ -2,7 +2,7 @@ use Rattle.std.proofs.Common.{◌≡◌, length, sym, subst}
 use Rattle.zj_block.specs.Sizes.{Numbers}
 use Rattle.zj_home.specs.Super.{Super}
 use Rattle.zj_session.specs.Playing.{AreJournals}
-use Rattle.zj_session.proofs.Mounted.{mounted_journals, mounted_shows}
+use Rattle.zj_session.proofs.Journals.{mounted_journals, mounted_shows}
 use Rattle.zj_session.proofs.starting.tests.starts_and_ends.Goals as goal
 
 pub start-requires-clause-shows : goal.start-requires-clause-shows
