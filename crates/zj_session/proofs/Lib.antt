@@ -4,6 +4,7 @@ pub mod Cores
 pub mod Fresh
 pub mod Growing
 pub mod Handles
+pub mod Journals
 pub mod Least
 pub mod Line
 pub mod Lists

@@ -192,3 +192,6 @@ fn put_back<D: Disk>(mut waiting: Vec<Area<D>>, places: &mut Areas<D>)
     }
     waiting.destroy_empty();
 }
+
+#[cfg(test)]
+mod tests;
