@@ -1,5 +1,6 @@
 pub mod AskedLemmas
-pub mod AnswerLemmas
+pub mod SpellLemmas
+pub mod PlayableLemmas
 pub mod StreamLemmas
 pub mod WordLemmas
 pub mod Ends
