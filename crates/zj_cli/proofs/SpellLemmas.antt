@@ -20,7 +20,7 @@ one_more_spelled answers i a text later spelled at adds =
     ∙ sym (flat_map-append answer_text (take i answers) (a ∷ [])) ∙ sym (ap (flat_map answer_text) (take_next answers i a at))
 
 -- there is one at each place within
-pub none_there : (answers : List Answer) (i : ℕ) → i < length answers → slice_get answers i ≡ None → ⊥
+pub none_there : {X : Type 0} (xs : List X) (i : ℕ) → i < length xs → slice_get xs i ≡ None → ⊥
 none_there [] i below e = omega (arith, below)
-none_there (a ∷ answers) zero below e = cc
-none_there (a ∷ answers) (suc i) below e = none_there answers i (omega (arith, below)) e
+none_there (x ∷ xs) zero below e = cc
+none_there (x ∷ xs) (suc i) below e = none_there xs i (omega (arith, below)) e

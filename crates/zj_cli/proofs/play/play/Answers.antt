@@ -30,9 +30,10 @@ returns-clause-runs g c =
           (elim played.ends [
             | inl from ↦ inl (record {
               super = super;
-              tree = from.0;
-              mounts = mounts_tree view before mid now (view d) (view d') old new super opened.out closed opened.in_order opened.home opened.journals d from.0 refl from.1;
-              script = from.2 before now (g.H.Shelf.faults c.args.shelf.now) (g.H.Shelf.faults c.close_all.new.shelf);
+              start = from.0;
+              tree = from.1;
+              mounts = mounts_tree view before mid now (view d) (view d') old new super opened.out closed opened.in_order opened.home opened.journals d from.0 from.1 refl from.2;
+              script = from.3 before now (g.H.Shelf.faults c.args.shelf.now) (g.H.Shelf.faults c.close_all.new.shelf);
             })
             | inr none ↦ inr (
               if_err c.play_set-played.result (λ fault. mount_cause view before mid now (view d) (view d') old new super opened.out closed opened.in_order opened.home opened.journals (g.H.Shelf.faults c.args.shelf.now) (g.H.Shelf.faults c.close_all.new.shelf) d d' fault refl refl) none.0,
