@@ -2,6 +2,7 @@
 //! the texts of faults.
 
 mod check;
+mod handles;
 mod make;
 mod play;
 

@@ -1,6 +1,6 @@
 -- The handles that lines and their answers tell, and lines that fit a history with one line more.
 use Rattle.std.proofs.Common.{◌≡◌, ◌≢◌, ⊎_elim, ℕ, ◌+◌, ◌<◌, ◌≤◌, Bool, true, false, cond, List, [], ◌∷◌, ◌++◌, length, filter, fold, take, Option, Some, None, slice_get, append-nil, eq-eqb, ne_eqb, refl, sym, ap, ◌∙◌, subst, arith}
-use Rattle.std.proofs.lemmas.List.{length-append, take-append-le}
+use Rattle.std.proofs.lemmas.List.{length-append, take-append-le, take_all}
 use Rattle.std.proofs.lemmas.List.Elements.{filter-append}
 use Rattle.std.proofs.lemmas.List.Sums.{fold-append}
 use Rattle.std.proofs.Math.Seq.{take-append_seam}
@@ -8,7 +8,7 @@ use Rattle.zj_block.specs.Sizes.{Numbers}
 use Rattle.zj_history.specs.Legal.{IsLegal}
 use Rattle.zj_history.specs.Operation.{Operation}
 use Rattle.zj_history.specs.State.{BlockState, after}
-use Rattle.zj_layout.proofs.Follow.{some_is}
+use Rattle.zj_layout.proofs.Follow.{none_some, some_is}
 use Rattle.zj_script.specs.declared.line.Act.{Act}
 use Rattle.zj_script.specs.declared.line.Line.{Line}
 use Rattle.zj_script.specs.declared.answer.Form.{Form}
@@ -51,10 +51,23 @@ says_more sizes state history more next handles core act (forms.Drew ticket repl
 }
 says_more sizes state history more next handles core act form s = s
 
-module _ (sizes : Numbers) (start : BlockState) (played : List Played) (history more : List Operation) (line : Line) (form : Form) (fit : Fit sizes start played history) where
+-- no line fits the history that was before
+pub fits_none : (sizes : Numbers) (start : BlockState) (before : List Operation) → IsLegal start before → Fit sizes start before [] before
+fits_none sizes start before legal = record {
+  legal = legal;
+  goes_on = take_all (length before) before (omega arith);
+  tickets = omega arith;
+  each = λ k core p at on. absurd (none_some at);
+}
+
+module _ (sizes : Numbers) (start : BlockState) (before : List Operation) (played : List Played) (history more : List Operation) (line : Line) (form : Form) (fit : Fit sizes start before played history) where
+  -- the history behind some lines
+  abbrev so_far : List Played → ℕ
+  so_far front = length before + tickets_in front
+
   -- an answer that is right behind some lines, after the operations known
   abbrev RightBehind : List Played → List Operation → List Operation → ℕ → Act → Form → Type 0
-  RightBehind front known whole core act form = IsRight sizes (after start known) whole (tickets_in front) (handle_after front) core act form
+  RightBehind front known whole core act form = IsRight sizes (after start known) whole (so_far front) (handle_after front) core act form
 
   abbrev all_played : List Played
   all_played = played ++ (line, form) ∷ []
@@ -64,7 +77,7 @@ module _ (sizes : Numbers) (start : BlockState) (played : List Played) (history 
 
   right_more : (front : List Played) (known : List Operation) (core : ℕ) (act : Act) (form : Form) → RightBehind front known history core act form → RightBehind front known all_done core act form
   right_more front known core act form r = record {
-    says = says_more sizes (after start known) history more (tickets_in front) (handle_after front) core act form r.says;
+    says = says_more sizes (after start known) history more (so_far front) (handle_after front) core act form r.says;
     order = r.order;
     suited = r.suited;
     busy = r.busy;
@@ -72,19 +85,19 @@ module _ (sizes : Numbers) (start : BlockState) (played : List Played) (history 
 
   -- the lines so far
   earlier : (k core : ℕ) (p : Played) → k < length played → slice_get played k ≡ Some p → p.0.core ≡ Some core
-      → RightBehind (take k all_played) (take (tickets_in (take k all_played)) all_done) all_done core p.0.act p.1
+      → RightBehind (take k all_played) (take (so_far (take k all_played)) all_done) all_done core p.0.act p.1
   earlier k core p low at on =
-      let few : tickets_in (take k played) ≤ length history = let most = fewer (λ (p : Played). has_ticket p.1) k played in let all = fit.tickets in omega arith in
-      let before : RightBehind (take k played) (take (tickets_in (take k played)) history) all_done core p.0.act p.1 = right_more (take k played) (take (tickets_in (take k played)) history) core p.0.act p.1 (fit.each k core p at on) in
-      subst (λ front. RightBehind front (take (tickets_in front) all_done) all_done core p.0.act p.1) (sym (take-append-le k played ((line, form) ∷ []) (omega arith)))
-      (subst (λ known. RightBehind (take k played) known all_done core p.0.act p.1) (sym (take-append-le (tickets_in (take k played)) history more few)) before)
+      let few : so_far (take k played) ≤ length history = let most = fewer (λ (p : Played). has_ticket p.1) k played in let all = fit.tickets in omega arith in
+      let was : RightBehind (take k played) (take (so_far (take k played)) history) all_done core p.0.act p.1 = right_more (take k played) (take (so_far (take k played)) history) core p.0.act p.1 (fit.each k core p at on) in
+      subst (λ front. RightBehind front (take (so_far front) all_done) all_done core p.0.act p.1) (sym (take-append-le k played ((line, form) ∷ []) (omega arith)))
+      (subst (λ known. RightBehind (take k played) known all_done core p.0.act p.1) (sym (take-append-le (so_far (take k played)) history more few)) was)
 
   -- and the last one
   last : (core : ℕ) → IsRight sizes (after start history) all_done (length history) (handle_after played) core line.act form
-      → RightBehind (take (length played) all_played) (take (tickets_in (take (length played) all_played)) all_done) all_done core line.act form
+      → RightBehind (take (length played) all_played) (take (so_far (take (length played) all_played)) all_done) all_done core line.act form
   last core right =
       let now : RightBehind played history all_done core line.act form = subst (λ n. IsRight sizes (after start history) all_done n (handle_after played) core line.act form) fit.tickets right in
-      subst (λ front. RightBehind front (take (tickets_in front) all_done) all_done core line.act form) (sym (take-append_seam played ((line, form) ∷ [])))
+      subst (λ front. RightBehind front (take (so_far front) all_done) all_done core line.act form) (sym (take-append_seam played ((line, form) ∷ [])))
       (subst (λ known. RightBehind played known all_done core line.act form) (sym (take-append_seam history more) ∙ ap (λ n. take n all_done) fit.tickets) now)
 
   abbrev counts : Played → Bool
@@ -93,18 +106,22 @@ module _ (sizes : Numbers) (start : BlockState) (played : List Played) (history 
   abbrev one : List Played
   one = (line, form) ∷ []
 
-  tickets_more : length more ≡ cond (has_ticket form) 1 0 → length all_done ≡ tickets_in all_played
+  tickets_more : length more ≡ cond (has_ticket form) 1 0 → length all_done ≡ so_far all_played
   tickets_more count =
-      length-append history more ∙ ap (λ n. length history + n) (count ∙ sym (by (has_ticket form))) ∙ ap (λ n. n + length (filter counts one)) fit.tickets
-      ∙ sym (length-append (filter counts played) (filter counts one)) ∙ ap (length {A = Played}) (sym (filter-append counts played one))
+      let both : length all_done ≡ length history + length more = length-append history more in
+      let sum : tickets_in all_played ≡ tickets_in played + length (filter counts one) = ap (length {A = Played}) (filter-append counts played one) ∙ length-append (filter counts played) (filter counts one) in
+      let last_one : length more ≡ length (filter counts one) = count ∙ sym (by (has_ticket form)) in
+      let was : length history ≡ length before + tickets_in played = fit.tickets in
+      omega arith
     where
       by : (t : Bool) → length (cond t one []) ≡ cond t 1 0
       by true = refl
       by false = refl
 
-  fits : (core : ℕ) → line.core ≡ Some core → IsLegal start all_done → length more ≡ cond (has_ticket form) 1 0 → IsRight sizes (after start history) all_done (length history) (handle_after played) core line.act form → Fit sizes start all_played all_done
+  fits : (core : ℕ) → line.core ≡ Some core → IsLegal start all_done → length more ≡ cond (has_ticket form) 1 0 → IsRight sizes (after start history) all_done (length history) (handle_after played) core line.act form → Fit sizes start before all_played all_done
   fits core on legal count right = record {
     legal = legal;
+    goes_on = take-append-le (length before) history more (let was = fit.tickets in omega arith) ∙ fit.goes_on;
     tickets = tickets_more count;
     each = λ k core' p at on'. ⊎_elim
         (λ front. earlier k core' p front.0 front.1 on')
@@ -112,14 +129,14 @@ module _ (sizes : Numbers) (start : BlockState) (played : List Played) (history 
         (at_end played (line, form) k p at);
   }
     where
-      at_last : (k core' : ℕ) (p : Played) → k ≡ length played → (line, form) ≡ p → p.0.core ≡ Some core' → RightBehind (take k all_played) (take (tickets_in (take k all_played)) all_done) all_done core' p.0.act p.1
+      at_last : (k core' : ℕ) (p : Played) → k ≡ length played → (line, form) ≡ p → p.0.core ≡ Some core' → RightBehind (take k all_played) (take (so_far (take k all_played)) all_done) all_done core' p.0.act p.1
       at_last k core' p here is on' =
-          subst (λ (q : Played). RightBehind (take k all_played) (take (tickets_in (take k all_played)) all_done) all_done core' q.0.act q.1) is
-          (subst (λ c. RightBehind (take k all_played) (take (tickets_in (take k all_played)) all_done) all_done c line.act form) (some_is (sym on ∙ ap (λ (q : Played). q.0.core) is ∙ on'))
-          (subst (λ n. RightBehind (take n all_played) (take (tickets_in (take n all_played)) all_done) all_done core line.act form) (sym here) (last core right)))
+          subst (λ (q : Played). RightBehind (take k all_played) (take (so_far (take k all_played)) all_done) all_done core' q.0.act q.1) is
+          (subst (λ c. RightBehind (take k all_played) (take (so_far (take k all_played)) all_done) all_done c line.act form) (some_is (sym on ∙ ap (λ (q : Played). q.0.core) is ∙ on'))
+          (subst (λ n. RightBehind (take n all_played) (take (so_far (take n all_played)) all_done) all_done core line.act form) (sym here) (last core right)))
 
 pub fits_further : FitsFurther
-fits_further sizes start played history later core line form fit on legal grows right =
-    subst (Fit sizes start (played ++ (line, form) ∷ [])) (sym grows.later_is)
-    (fits sizes start played history grows.more line form fit core on (subst (IsLegal start) grows.later_is legal) grows.count
+fits_further sizes start before played history later core line form fit on legal grows right =
+    subst (Fit sizes start before (played ++ (line, form) ∷ [])) (sym grows.later_is)
+    (fits sizes start before played history grows.more line form fit core on (subst (IsLegal start) grows.later_is legal) grows.count
     (subst (λ whole. IsRight sizes (after start history) whole (length history) (handle_after played) core line.act form) grows.later_is right))

@@ -1,5 +1,5 @@
 -- Lists read at a place, and one place of them changed.
-use Rattle.std.proofs.Common.{◌≡◌, ◌≢◌, ◌⊎◌, inl, inr, ⊎_elim, ℕ, zero, suc, ◌<◌, ◌≤◌, Bool, true, false, cond, List, [], ◌∷◌, ◌++◌, length, filter, get_or, take, drop, Option, Some, None, slice_get, slice_set, option_map, All, AllPairs, refl, sym, ap, subst, arith}
+use Rattle.std.proofs.Common.{◌≡◌, ◌≢◌, ◌⊎◌, inl, inr, ⊎_elim, ℕ, zero, suc, ◌<◌, ◌≤◌, Bool, true, false, cond, List, [], ◌∷◌, ◌++◌, length, filter, get_or, map, set, take, drop, Option, Some, None, slice_get, slice_set, option_map, All, AllPairs, refl, sym, ap, subst, arith}
 use Rattle.std.proofs.lemmas.Option.{get_or_from_slice_get, slice_get-get_or, slice_get_within}
 use Rattle.zj_layout.proofs.Follow.{none_some, some_is}
 
@@ -67,6 +67,18 @@ module _ {X : Type 0} where
       by : (t : Bool) → length (filter p (take k xs)) ≤ length (filter p xs) → length (cond t (x ∷ filter p (take k xs)) (filter p (take k xs))) ≤ length (cond t (x ∷ filter p xs) (filter p xs))
       by true rest = omega arith
       by false rest = rest
+
+-- a list of which so many places are mapped: the next one is as it was, and is mapped then
+module _ {X : Type 0} (f : X → X) where
+  pub mapped_here : (xs : List X) (i : ℕ) (d : X) → i < length xs → get_or (map f (take i xs) ++ drop i xs) i d ≡ get_or xs i d
+  mapped_here [] i d low = absurd (omega arith)
+  mapped_here (x ∷ xs) zero d low = refl
+  mapped_here (x ∷ xs) (suc i) d low = mapped_here xs i d (omega arith)
+
+  pub mapped_next : (xs : List X) (i : ℕ) (d : X) → i < length xs → set (map f (take i xs) ++ drop i xs) i (f (get_or xs i d)) ≡ map f (take (suc i) xs) ++ drop (suc i) xs
+  mapped_next [] i d low = absurd (omega arith)
+  mapped_next (x ∷ xs) zero d low = refl
+  mapped_next (x ∷ xs) (suc i) d low = ap (λ l. f x ∷ l) (mapped_next xs i d (omega arith))
 
 -- what a mapped option was before
 pub mapped_none : {X Y : Type 0} (f : X → Y) (o : Option X) → option_map f o ≡ None → o ≡ None

@@ -40,11 +40,11 @@ element (x ∷ xs) zero low = (x, refl)
 element (x ∷ xs) (suc n) low = element xs n (omega arith)
 
 -- the ticket and the reply of an answer, and others where it has none
-ticket_in : Form → ℕ
+abbrev ticket_in : Form → ℕ
 ticket_in (forms.Drew ticket reply) = ticket
 ticket_in form = 0
 
-reply_in : Reply → Form → Reply
+abbrev reply_in : Reply → Form → Reply
 reply_in other (forms.Drew ticket reply) = reply
 reply_in other form = other
 
@@ -68,6 +68,9 @@ drew_or (forms.TxFull have more) = inr refl
 drew_or (forms.Full need free) = inr refl
 drew_or (forms.Again block noted found) = inr refl
 drew_or forms.Order = inr refl
+
+abbrev pair : Line → Form → Played
+pair line form = (line, form)
 
 tickets_with : (front : List Played) (p : Played) → tickets_in (front ++ p ∷ []) ≡ tickets_in front + cond (has_ticket p.1) 1 0
 tickets_with front p = ap (length {A = Played}) (filter-append (λ (q : Played). has_ticket q.1) front (p ∷ [])) ∙ length-append (filter (λ (q : Played). has_ticket q.1) front) (cond (has_ticket p.1) (p ∷ []) []) ∙ ap (λ n. tickets_in front + n) (by (has_ticket p.1))
@@ -123,10 +126,10 @@ module _ (sizes : Numbers) (start : BlockState) (played : List Played) (history 
 
     -- and one with a ticket
     module _ (core ticket : ℕ) (reply : Reply) (drew : form ≡ forms.Drew ticket reply) (on : line.core ≡ Some core) (d : IsDrawn sizes history (length {A = Operation} [] + tickets_in (take n played)) core (handle_after (take n played) core) line.act ticket reply) where
-      calls_now : List Call
+      abbrev calls_now : List Call
       calls_now = r.calls ++ d.call ∷ []
 
-      replies_now : List Reply
+      abbrev replies_now : List Reply
       replies_now = r.replies ++ reply ∷ []
 
       one_more : tickets_in (take (suc n) played) ≡ tickets_in (take n played) + 1
@@ -148,7 +151,7 @@ module _ (sizes : Numbers) (start : BlockState) (played : List Played) (history 
 
       this_one : (k core' ticket' : ℕ) (line' : Line) (reply' : Reply) → k ≡ n → slice_get played k ≡ Some (line', forms.Drew ticket' reply') → line'.core ≡ Some core' → Made calls_now replies_now k line' core' ticket' reply'
       this_one k core' ticket' line' reply' is there on' =
-          let same : (line, forms.Drew ticket reply) ≡ (line', forms.Drew ticket' reply') = ap (λ f. (line, f)) (sym drew) ∙ some_is (sym at ∙ ap (slice_get played) (sym is) ∙ there) in
+          let same : pair line (forms.Drew ticket reply) ≡ pair line' (forms.Drew ticket' reply') = ap (pair line) (sym drew) ∙ some_is (sym at ∙ ap (slice_get played) (sym is) ∙ there) in
           let lines : line ≡ line' = ap (λ (p : Played). p.0) same in
           let tickets : ticket ≡ ticket' = ap (λ (p : Played). ticket_in p.1) same in
           let answers : reply ≡ reply' = ap (λ (p : Played). reply_in reply p.1) same in
@@ -185,18 +188,18 @@ module _ (sizes : Numbers) (start : BlockState) (played : List Played) (history 
   module _ (all_on : All (λ (p : Played). IsSome p.0.core) played) where
     runs_to : (n : ℕ) → n ≤ length played → RunsTo n
     runs_to zero low = runs_none
-    runs_to (suc n) low = let p = element played n (omega arith) in with_core p.0.0 p.0.1 p.0.0.core refl (at_all (λ (q : Played). IsSome q.0.core) played all_on n p.0 p.1) p.1
+    runs_to (suc n) low = let p = element played n (omega arith) in with_core (runs_to n (omega arith)) p.0.0 p.0.1 p.0.0.core refl (at_all (λ (q : Played). IsSome q.0.core) played all_on n p.0 p.1) p.1
       where
-        with_form : (line : Line) (form : Form) (core : ℕ) → slice_get played n ≡ Some (line, form) → line.core ≡ Some core → RunsTo (suc n)
-        with_form line form core at on = elim (drew_or form) [
-          | inl drew ↦ runs_more n line form at (runs_to n (omega arith)) core drew.0 drew.1 drew.2 on
+        with_form : RunsTo n → (line : Line) (form : Form) (core : ℕ) → slice_get played n ≡ Some (line, form) → line.core ≡ Some core → RunsTo (suc n)
+        with_form r line form core at on = elim (drew_or form) [
+          | inl drew ↦ runs_more n line form at r core drew.0 drew.1 drew.2 on
               (subst (λ f. Says sizes (after start (take (length {A = Operation} [] + tickets_in (take n played)) history)) history (length {A = Operation} [] + tickets_in (take n played)) (handle_after (take n played)) core line.act f) drew.2 (fit.each n core (line, form) at on).says)
-          | inr none ↦ runs_on n line form at (runs_to n (omega arith)) none
+          | inr none ↦ runs_on n line form at r none
         ]
 
-        with_core : (line : Line) (form : Form) (c : Option ℕ) → line.core ≡ c → IsSome c → slice_get played n ≡ Some (line, form) → RunsTo (suc n)
-        with_core line form None is some at = absurd (true≢false (sym some))
-        with_core line form (Some core) is some at = with_form line form core at is
+        with_core : RunsTo n → (line : Line) (form : Form) (c : Option ℕ) → line.core ≡ c → IsSome c → slice_get played n ≡ Some (line, form) → RunsTo (suc n)
+        with_core r line form None is some at = absurd (true≢false (sym some))
+        with_core r line form (Some core) is some at = with_form r line form core at is
 
 pub fit_is_run : HistoryIsRun → FitIsRun
 fit_is_run law sizes start tree played history shows all_on fit =

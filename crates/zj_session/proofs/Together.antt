@@ -1,5 +1,5 @@
 -- A core among all cores: what it knows once it has met the others, and once it has parted from them.
-use Rattle.std.proofs.Common.{◌≡◌, ◌≢◌, ◌⊎◌, inl, inr, ℕ, Bool, true, false, true≢false, List, [], ◌∷◌, ◌++◌, map, get_or, refl, sym, ap, ◌∙◌, subst, All, Option, None, unwrap_or}
+use Rattle.std.proofs.Common.{◌≡◌, ◌≢◌, ◌⊎◌, inl, inr, ℕ, ◌-◌, Bool, true, false, true≢false, List, [], ◌∷◌, ◌++◌, length, map, get_or, refl, sym, ap, ◌∙◌, subst, All, Option, None, unwrap_or}
 use Rattle.std.specs.FinMap as finmap
 use Rattle.std.specs.Ordering.{nat_cmp}
 use Rattle.std.specs.Cmp.{nat_cmp_total}
@@ -7,7 +7,7 @@ use Rattle.std.proofs.lemmas.Bool.{cases_eq}
 use Rattle.std.proofs.lemmas.List.{map-append}
 use Rattle.std.proofs.lemmas.List.Elements.{All-append, All-cons, All-head, All-map, All-nil, All-tail}
 use Rattle.zj_turns.specs.Views.{Has, Known, View, alone, blank, known_in, knowing, without}
-use Rattle.zj_turns.specs.Passes.{CacheParameters, IsPeer, PassState, mine, now_knowing, with_away, with_view}
+use Rattle.zj_turns.specs.Passes.{CacheParameters, IsPeer, PassState, left_of, mine, now_knowing, with_away, with_view}
 use Rattle.zj_turns.proofs.Maps.{get_else, get_gone, get_here, get_left}
 use Rattle.zj_core.specs.Core.{CoreState, IsOf}
 use Rattle.zj_session.specs.Gathering.{ArePeers, core_away, gathered, passes_of, released}
@@ -191,6 +191,13 @@ module _ {D : Type 0} (cache : CacheParameters) (front back : List (CoreState D)
     apart = pairs_mapped (λ (q r : PassState). q.core ≢ r.core) (λ (c : CoreState D). c.pass) back (pairs_tail Differ core back (pairs_back Differ front (core ∷ back) together.apart));
   }
 
+  -- the others as they were, once they are at hand again
+  pub front_home : (front₁ front₂ : List (CoreState D)) → front₁ ≡ map (core_away true) front → front₂ ≡ map (core_away false) front₁ → front₂ ≡ front
+  front_home front₁ front₂ away home = home ∙ ap (map (core_away false)) away ∙ home_again front (λ k d below. (of_front k d below).active.not_away)
+
+  pub back_home : (back₁ back₂ : List (CoreState D)) → back₁ ≡ map (core_away true) back → back₂ ≡ map (core_away false) back₁ → back₂ ≡ back
+  back_home back₁ back₂ away home = home ∙ ap (map (core_away false)) away ∙ home_again back (λ k d below. (of_back k d below).active.not_away)
+
   -- the others' passes
   abbrev pub others : List PassState
   others = passes_of (front ++ back)
@@ -265,6 +272,9 @@ module _ {D : Type 0} (cache : CacheParameters) (front back : List (CoreState D)
 
       pub mine₂ : mine core₂.pass ≡ mine core.pass
       mine₂ = ap (λ (c : CoreState D). mine c.pass) met_is ∙ mine_met
+
+      pub left₂ : left_of core.pass ≢ 0 → left_of core₂.pass ≢ 0
+      left₂ left none = left (sym (ap (λ (k : Known). 4294967295 - length k.operations) mine₂) ∙ none)
 
       module _ (core₃ : CoreState D) (only : core₃ ≡ record core₂ { pass = now_knowing core₂.pass (mine core₃.pass); begun = core₃.begun }) where
         pass₃ : core₃.pass ≡ now_knowing core₂.pass (mine core₃.pass)

@@ -4,3 +4,4 @@ pub mod Laws
 pub mod Played
 pub mod Playing
 pub mod Service
+pub mod Starting

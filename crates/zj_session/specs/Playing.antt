@@ -1,9 +1,10 @@
 -- Several cores that play the lines of a schedule.
-use Rattle.std.specs.Prelude.{◌≡◌, ℕ, ◌<◌, List, ◌++◌, length, map, Option, Some, None, IfSome, IsSomeAnd, slice_get}
+use Rattle.std.specs.Prelude.{◌≡◌, ℕ, ◌<◌, List, ◌++◌, map, Option, Some, None, IfSome, IsSomeAnd, slice_get}
 use Rattle.std.specs.List.{All}
 use Rattle.zj_block.specs.Sizes.{Numbers}
 use Rattle.zj_area.specs.Journal.{AreaView}
 use Rattle.zj_history.specs.Operation.{Operation}
+use Rattle.zj_tree.specs.declared.call.Call.{Call}
 use Rattle.zj_script.specs.declared.line.Line.{Line}
 use Rattle.zj_script.specs.declared.answer.Answer.{Answer}
 use Rattle.zj_turns.specs.Passes.{CacheParameters}
@@ -39,13 +40,14 @@ journals_of cores = map (λ c. c.area) cores
 abbrev pub AreJournals : {D : Type 0} → Numbers → List (AreaView D) → Type 0
 AreJournals sizes areas = (core : ℕ) → IfSome (slice_get areas core) (λ area. (area.core ≡ core) × (area.sizes ≡ sizes) × IsReady area)
 
+-- a core behind the call of a handle: where one was open, it is dropped
+abbrev pub rested : {D : Type 0} → CoreState D → Option Call → CoreState D
+rested c None = c
+rested c (Some call) = without_handle c
+
 -- the core with no handle open: one that was is dropped
 abbrev pub resting : {D : Type 0} → CoreState D → CoreState D
-resting c = by c.begun
-  where
-    by : _
-    by None = c
-    by (Some call) = without_handle c
+resting c = rested c c.begun
 
 -- A line can be played on so many cores: it is one of them, and its act is one of a handle's.
 pub record IsPlayable (cores : ℕ) (line : Line) : Type 0 where

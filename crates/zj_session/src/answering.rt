@@ -4,8 +4,9 @@ ghost use Rattle.std.specs.Prelude.{◌≡◌, ◌≢◌, ◌⊎◌, ◌<◌, If
 ghost use Rattle.zj_script.specs.declared.line.Act.TheVariants as acts;
 ghost use Rattle.zj_script.specs.declared.answer.Form.TheVariants as forms;
 ghost use Rattle.zj_turns.specs.Passes.{left_of};
+ghost use Rattle.zj_turns.specs.Views.{Has};
 ghost use Rattle.zj_core.specs.Core.{CoreState, IsOf, IsSteady};
-ghost use Rattle.zj_session.specs.Answering.{Does, DoesIdle, DoesOpen, IsAnswered, IsHandled, IsLeftOff, without_handle};
+ghost use Rattle.zj_session.specs.Answering.{Does, DoesIdle, DoesOpen, IsAnswered, IsHandled, IsLeftOff, OnlyOwn, without_handle};
 ghost use Rattle.zj_session.specs.Service.{AreTogether};
 
 use crate::gathering::{meet_all, part_all};
@@ -23,17 +24,60 @@ fn answer_act<D: Disk>(
     act: &Act,
 ) -> Result<Form, AllocError>
     requires of { IsOf cache.now core.old }
+    requires known { Has core.old.pass.view core.old.pass.core }
     requires handled { IsHandled act.now }
     requires left { left_of core.old.pass ≢ 0 }
     ensures does { IfOk result (Does cache.now core.old core.new core.old.begun act.now) }
+    ensures only { OnlyOwn core.old core.new }
     ensures err { OnErr result ((core.new ≡ core.old) ⊎ (core.new ≡ without_handle core.old)) }
 {
-    match (act, core.open_handle()) {
-        (Act::Call(call), false) => make_call(cache, core, call),
-        (Act::Begin(call), false) => begin(core, call),
-        (Act::Take, true) => take(cache, core),
-        (Act::Stop, true) => stop(cache, core),
-        (Act::Drop, true) => {
+    if core.open_handle() {
+        answer_open(cache, core, act)
+    } else {
+        answer_idle(cache, core, act)
+    }
+}
+
+/// Answers an act on a core that has no handle.
+fn answer_idle<D: Disk>(
+    cache: &Cache<ShowsTree>,
+    core: &mut Core<D>,
+    act: &Act,
+) -> Result<Form, AllocError>
+    requires of { IsOf cache.now core.old }
+    requires known { Has core.old.pass.view core.old.pass.core }
+    requires idle { core.old.begun ≡ None }
+    requires handled { IsHandled act.now }
+    requires left { left_of core.old.pass ≢ 0 }
+    ensures does { IfOk result (DoesIdle cache.now core.old core.new act.now) }
+    ensures only { OnlyOwn core.old core.new }
+    ensures err { OnErr result (core.new ≡ core.old) }
+{
+    match act {
+        Act::Call(call) => make_call(cache, core, call),
+        Act::Begin(call) => begin(core, call),
+        _ => Ok(Form::Order),
+    }
+}
+
+/// Answers an act on a core whose handle is open. `AllocError` leaves it open, or drops it.
+fn answer_open<D: Disk>(
+    cache: &Cache<ShowsTree>,
+    core: &mut Core<D>,
+    act: &Act,
+) -> Result<Form, AllocError>
+    requires of { IsOf cache.now core.old }
+    requires known { Has core.old.pass.view core.old.pass.core }
+    requires open { IsSome core.old.begun }
+    requires handled { IsHandled act.now }
+    ensures does { IfOk result (λ form. IfSome core.old.begun (λ call. DoesOpen cache.now core.old core.new call act.now form)) }
+    ensures only { OnlyOwn core.old core.new }
+    ensures err { OnErr result ((core.new ≡ core.old) ⊎ (core.new ≡ without_handle core.old)) }
+{
+    match act {
+        Act::Take => take(cache, core),
+        Act::Stop => stop(cache, core),
+        Act::Drop => {
             core.drop_handle(cache);
             Ok(Form::Dropped)
         }
@@ -48,9 +92,11 @@ fn make_call<D: Disk>(
     call: &Call,
 ) -> Result<Form, AllocError>
     requires of { IsOf cache.now core.old }
+    requires known { Has core.old.pass.view core.old.pass.core }
     requires idle { core.old.begun ≡ None }
     requires left { left_of core.old.pass ≢ 0 }
     ensures does { IfOk result (DoesIdle cache.now core.old core.new (acts.Call call.now)) }
+    ensures only { OnlyOwn core.old core.new }
     ensures err { OnErr result (core.new ≡ core.old) }
 {
     match core.call(cache, call) {
@@ -79,8 +125,10 @@ fn begin<D: Disk>(core: &mut Core<D>, call: &Call) -> Result<Form, AllocError>
 /// Takes the next block that the open handle needs.
 fn take<D: Disk>(cache: &Cache<ShowsTree>, core: &mut Core<D>) -> Result<Form, AllocError>
     requires of { IsOf cache.now core.old }
+    requires known { Has core.old.pass.view core.old.pass.core }
     requires open { IsSome core.old.begun }
     ensures does { IfOk result (λ form. IfSome core.old.begun (λ call. DoesOpen cache.now core.old core.new call acts.Take form)) }
+    ensures only { OnlyOwn core.old core.new }
     ensures err { OnErr result (core.new ≡ core.old) }
 {
     match core.take(cache) {
@@ -91,11 +139,12 @@ fn take<D: Disk>(cache: &Cache<ShowsTree>, core: &mut Core<D>) -> Result<Form, A
     }
 }
 
-/// Stops the open handle.
+/// Stops the open handle. `AllocError` drops it.
 fn stop<D: Disk>(cache: &Cache<ShowsTree>, core: &mut Core<D>) -> Result<Form, AllocError>
     requires of { IsOf cache.now core.old }
     requires open { IsSome core.old.begun }
     ensures does { IfOk result (λ form. IfSome core.old.begun (λ call. DoesOpen cache.now core.old core.new call acts.Stop form)) }
+    ensures only { OnlyOwn core.old core.new }
     ensures err { OnErr result (core.new ≡ without_handle core.old) }
 {
     match core.stop(cache) {

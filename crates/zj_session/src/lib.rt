@@ -1,4 +1,25 @@
-//! Several cores together: each line of a schedule is answered on its core, which first meets all others.
+//! Several cores over one block cache, which play the lines of a schedule.
+//!
+//! A `Service` has a core for each journal of an image that was mounted. `play` runs each line on its core, which first meets every
+//! other one and parts from each afterwards: so between two lines each core knows of no core but its own, and while it answers it
+//! knows what all did and hold. It promises:
+//!
+//! - **The lines, the answers and one history fit** (`play`, clauses `plays` and `stops`, `Fit`): the history is legal from the blocks
+//!   on that the cache was made with; the answers that have a ticket are its operations, in their order, each of its line's core,
+//!   and each performs the line's call, or that of the handle which the line stops, with the reply answered. Every other
+//!   answer is right after the operations of the lines before it (`IsRight`): `order` exactly where the act doesn't suit the core;
+//!   `busy` exactly where the act takes blocks and the handle of another core has that of the root's node, which each call takes
+//!   first; `took` names a block that the call may take in every state that shows a tree and has what the handle took before; `ready`
+//!   comes where the call is performed on what was taken.
+//! - Replies that fit are the plain service's in turn (`laws::fit_is_run`).
+//! - `play` ends with no handle open, also where memory runs out: then the answers are those of the lines so far. It touches no
+//!   device.
+//! - `Service::start` makes a service whose history is empty, over the blocks that were recovered; `Service::end` gives the
+//!   journals back as they are.
+//! - `answer_line` answers one line (clause `answered`, `IsAnswered`); after it the cores go on to serve calls, and the answer is right
+//!   (`laws::answers_are_right`); lines that fit a history go on to fit (`laws::fits_further`).
+//!
+//! There is no lock, and no call waits.
 #![tactic(auto)]
 
 mod answering;

@@ -1,12 +1,12 @@
 //! Playing the lines of a schedule.
 
-ghost use Rattle.std.specs.Prelude.{◌≡◌, ◌≤◌, ℕ, ◌++◌, [], List, OnErr, OnOk, Some, length, map, slice_get};
+ghost use Rattle.std.specs.Prelude.{◌≡◌, ◌≤◌, ◌++◌, [], IfOk, List, None, OnErr, OnOk, length, map};
 ghost use Rattle.std.specs.List.{All};
 ghost use Rattle.zj_history.specs.Operation.{Operation};
 ghost use Rattle.zj_script.specs.declared.answer.Answer.{Answer};
 ghost use Rattle.zj_script.specs.declared.line.Line.{Line};
 ghost use Rattle.zj_turns.specs.Passes.{left_of};
-ghost use Rattle.zj_core.specs.Core.{CoreState, IsOf};
+ghost use Rattle.zj_core.specs.Core.{IsOf};
 ghost use Rattle.zj_session.specs.Playing.{AreIdle, IsPlayable, PlaysLines, journals_of, resting};
 ghost use Rattle.zj_session.specs.Service.{AreTogether, IsService};
 
@@ -21,7 +21,7 @@ use zj_script::{Answer, Line, Schedule};
 use zj_turns::Cache;
 
 /// Why playing ended early.
-#[derive(Debug, PartialEq, Eq)]
+#[derive(Debug, PartialEq, Eq, Drop)]
 pub enum Stopped {
     /// A device failed in a checkpoint.
     Device(Device),
@@ -39,7 +39,7 @@ pub enum Stopped {
 }
 
 /// How playing ended.
-#[derive(Debug, PartialEq, Eq)]
+#[derive(Debug, PartialEq, Eq, Drop)]
 pub struct Ended {
     /// `None` where all lines were played.
     pub fault: Option<Stopped>,
@@ -57,7 +57,8 @@ fn drop_all<D: Disk>(cache: &Cache<ShowsTree>, cores: &mut [Core<D>])
     }
 }
 
-/// Answers lines in order on the cores that they name. After `AllocError` the answers are those of the lines so far.
+/// Answers lines in order on the cores that they name. After `AllocError` the answers are those of the lines so far. Once each
+/// handle that is open then is dropped, the cores rest between two schedules.
 fn play_lines<D: Disk>(
     cache: &Cache<ShowsTree>,
     cores: &mut [Core<D>],
@@ -67,6 +68,11 @@ fn play_lines<D: Disk>(
     requires together { AreTogether cache.now cores.old }
     requires playable { All (IsPlayable (length cores.old)) lines.now }
     requires left { All (λ c. length lines.now ≤ left_of c.pass) cores.old }
+    requires idle { AreIdle cores.old }
+    ensures plays { OnOk result ((before : List Operation) → IsService cache.now cores.old before → (answers : List Answer) × (out.new.answers ≡ out.old.answers ++ answers) × PlaysLines (record { cache = cache.now; cores = cores.old }) (record { cache = cache.now; cores = map resting cores.new }) before lines.now [] answers) }
+    ensures stops { OnErr result ((before : List Operation) → IsService cache.now cores.old before → (rest : List Line) × (answers : List Answer) × (out.new.answers ≡ out.old.answers ++ answers) × PlaysLines (record { cache = cache.now; cores = cores.old }) (record { cache = cache.now; cores = map resting cores.new }) before lines.now rest answers) }
+    ensures together { AreTogether cache.now cores.new }
+    ensures journals { journals_of cores.new ≡ journals_of cores.old }
 {
     for line in lines {
         out.reserve()?;
