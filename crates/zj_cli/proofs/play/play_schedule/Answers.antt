@@ -8,12 +8,6 @@ use Rattle.zj_cli.proofs.PlayLemmas.{script_ends, transcribed}
 use Rattle.zj_cli.proofs.PlayableLemmas.{have_cores, left, playable}
 use Rattle.zj_cli.proofs.play.play_schedule.Goals as goal
 
-pub fit_is_run-requires : goal.fit_is_run-requires
-fit_is_run-requires g c = ?
-
-pub play-requires-clause-not_yet : goal.play-requires-clause-not_yet
-play-requires-clause-not_yet g c = ?
-
 pub play-requires-clause-playable : goal.play-requires-clause-playable
 play-requires-clause-playable g c = playable c.args.cores (length c.args.service.now.cores) c.deref.result.now c.in_ok-schedule.schedule c.requires.cores.1 c.in_ok-schedule.ensures.schedule c.in_ok-schedule.ensures.built
 

@@ -6,9 +6,6 @@ use Rattle.zj_mount.specs.Scanning.{AreRead}
 use Rattle.zj_cli.proofs.ReadyLemmas.{journals_ready}
 use Rattle.zj_cli.proofs.play.play_set.Goals as goal
 
-pub start-requires-clause-not_yet : goal.start-requires-clause-not_yet
-start-requires-clause-not_yet g c = ?
-
 pub start-requires-clause-shows : goal.start-requires-clause-shows
 start-requires-clause-shows g c =
     let mounted = c.in-Ok.ensures in
@@ -18,9 +15,6 @@ pub start-requires-clause-journals : goal.start-requires-clause-journals
 start-requires-clause-journals g c =
     let mounted = c.in-Ok.ensures in
     journals_ready c.args.home.now.told c.in-Ok.recovered.sizes c.args.areas.areas c.mount.new.areas.areas c.in-Ok.recovered.journals mounted.sizes c.requires.opened mounted.count mounted.ready mounted.many mounted.journals
-
-pub end-requires : goal.end-requires
-end-requires g c = ?
 
 pub returns-in-Ok-start-clause-read : goal.returns-in-Ok-start-clause-read
 returns-in-Ok-start-clause-read g c =
