@@ -1,8 +1,5 @@
 use Rattle.std.proofs.Common.{◌∙◌, refl, sym, ap, subst, inl, inr}
 use Rattle.std.specs.Result.{result_err}
-use Rattle.zj_mount.specs.Image.{HasHome, HasJournals}
-use Rattle.zj_mount.specs.Mounting.{AreInOrder}
-use Rattle.zj_mount.specs.Set.{IsOut}
 use Rattle.zj_cli.specs.Outside.{Outside}
 use Rattle.zj_cli.specs.Play.{PlayEnds}
 use Rattle.zj_cli.proofs.CheckLemmas.{close_cause, mount_cause, mounts_tree, out_read}
@@ -16,18 +13,14 @@ returns-clause-runs g c =
     let before = g.H.Shelf.names c.args.shelf.now in
     let mid = g.H.Shelf.names c.open_all.new.shelf in
     let now = g.H.Shelf.names c.close_all.new.shelf in
-    let set = c.in_ok-home in
-    let is_out : IsOut view before mid (view set.home.device) set.areas.areas = rw (← set.home-is, ← set.areas-is) set.ensures.out in
-    let in_order : AreInOrder set.home.told set.areas.areas = rw (← set.home-is, ← set.areas-is) set.ensures.in_order in
-    let has_home : HasHome before set.home.told = rw (← set.home-is) set.ensures.home in
-    let has_journals : HasJournals before set.home.told set.home.told.sizes.cores = rw (← set.home-is) set.ensures.journals in
+    let opened = c.in_ok-home.ensures in
     let played = c.play_set-areas.ensures in
-    let d = set.home.device in
+    let d = c.in_ok-home.field-0.home.device in
     let d' = c.play_set-areas.new.home.device in
-    let super = set.home.told in
-    let old = set.areas.areas in
+    let super = c.in_ok-home.field-0.home.told in
+    let old = c.in_ok-home.field-0.areas.areas in
     let new = c.play_set-areas.result.0.areas in
-    let out = out_read view before mid (view d) (view d') old new is_out played.home_read played.read in
+    let out = out_read view before mid (view d) (view d') old new opened.out played.home_read played.read in
     let closed = c.close_all.ensures.closed before out in
     let outside : Outside = record { left = g.S.Source.left c.args.input.now; held = g.K.Sink.held c.args.out.now; names = before; input_faults = g.S.Source.faults c.args.input.now; output_faults = g.K.Sink.faults c.args.out.now; shelf_faults = g.H.Shelf.faults c.args.shelf.now } in
     let after : Outside = record { left = g.S.Source.left c.play_set-areas.new.input; held = g.K.Sink.held c.play_set-areas.new.out; names = now; input_faults = g.S.Source.faults c.play_set-areas.new.input; output_faults = g.K.Sink.faults c.play_set-areas.new.out; shelf_faults = g.H.Shelf.faults c.close_all.new.shelf } in
@@ -39,16 +32,16 @@ returns-clause-runs g c =
               super = super;
               start = from.0;
               tree = from.1;
-              mounts = mounts_tree view before mid now (view d) (view d') old new super is_out closed in_order has_home has_journals d from.0 from.1 refl from.2;
+              mounts = mounts_tree view before mid now (view d) (view d') old new super opened.out closed opened.in_order opened.home opened.journals d from.0 from.1 refl from.2;
               script = from.3 before now (g.H.Shelf.faults c.args.shelf.now) (g.H.Shelf.faults c.close_all.new.shelf);
             })
             | inr none ↦ inr (
-              if_err c.play_set-areas.result.1 (λ fault. mount_cause view before mid now (view d) (view d') old new super is_out closed in_order has_home has_journals (g.H.Shelf.faults c.args.shelf.now) (g.H.Shelf.faults c.close_all.new.shelf) d d' fault refl refl) none.0,
+              if_err c.play_set-areas.result.1 (λ fault. mount_cause view before mid now (view d) (view d') old new super opened.out closed opened.in_order opened.home opened.journals (g.H.Shelf.faults c.args.shelf.now) (g.H.Shelf.faults c.close_all.new.shelf) d d' fault refl refl) none.0,
               none.1,
               (ap g.S.Source.left none.2, ap g.K.Sink.held none.3),
             )
           ])
-          (told_quiet _ c.close_all.result c.map_err-closed.result c.map_err-closed.ensures.cases (on_ok c.close_all.result (λ quiet. quiet ∙ set.ensures.quiet) c.close_all.ensures.quiet))
+          (told_quiet _ c.close_all.result c.map_err-closed.result c.map_err-closed.ensures.cases (on_ok c.close_all.result (λ quiet. quiet ∙ opened.quiet) c.close_all.ensures.quiet))
           (told_failed outside after c.close_all.result c.map_err-closed.result c.map_err-closed.ensures.cases
-          (if_err c.close_all.result (λ fault. close_cause view before mid now (view d) (view d') old new super is_out closed in_order has_home has_journals _ (g.H.Shelf.faults c.args.shelf.now) (g.H.Shelf.faults c.open_all.new.shelf) (g.H.Shelf.faults c.close_all.new.shelf) fault.device (played.count ∙ in_order.many) c.open_all.ensures.no_fewer) c.close_all.ensures.cause)));
+          (if_err c.close_all.result (λ fault. close_cause view before mid now (view d) (view d') old new super opened.out closed opened.in_order opened.home opened.journals _ (g.H.Shelf.faults c.args.shelf.now) (g.H.Shelf.faults c.open_all.new.shelf) (g.H.Shelf.faults c.close_all.new.shelf) fault.device (played.count ∙ opened.in_order.many) c.open_all.ensures.no_fewer) c.close_all.ensures.cause)));
     }
