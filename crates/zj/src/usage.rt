@@ -43,16 +43,31 @@ A path is / or names behind slashes, as /mail/new: at most 16 names, each of 1 t
 26 of the letters a to z and A to Z, digits, and . _ - (but not . or .. alone).
 A TEXT is the bytes from ! to ~ other than %, and % with two digits of base 16 in
 lower case for each other byte, as a%20b.
-A script has at most 65,536 lines of at most 20,000 bytes, and 16,777,216 bytes. The
-language has these acts besides, which are not built yet and refused: fsync PATH,
-begin and a call, take, look, stop, drop, commit, sync, and checkpoint alone.
+A script has at most 65,536 lines of at most 20,000 bytes, and 16,777,216 bytes.
+
+A call can also be made step by step, by a handle, of which a core has one at most:
+  0 begin CALL        opens a handle for a call; answered by begun
+  0 take              takes the next block that the call needs, first that of the
+                      root, 8 in an image that make alone made; answered by took
+                      BLOCK, or by ready where the call needs no more blocks
+  0 stop              takes what is needed still, makes the call, and gives the blocks
+                      back; answered like a call
+  0 drop              gives the blocks back with nothing done; answered by dropped
+A block that a handle took is no other core's. A call, take or stop that needs one
+is answered by busy BLOCK CORE, the block and the core that has it: nothing was done,
+and a later line may try again. An act that doesn't suit its core is answered by
+order, and does nothing: a call or begin where a handle is open, or take, stop or
+drop where none is. What is open when the script ends is dropped.
+The language has these acts besides, which are not built yet and refused: fsync PATH,
+look, commit, sync, and checkpoint alone.
 
 Where a line is refused no call runs, and standard error tells the place, as
   zj: script line 2 column 3 kind 2
 and then the line, a mark under the column, and what was due there.
 
-play starts from the tree that home holds, and prints one line for each call:
-LINE CORE TICKET REPLY. It writes no file: what the calls did is gone when it ends.
+play starts from the tree that home holds, and prints one line for each act: LINE CORE
+and its answer, that of a call TICKET REPLY: its place among the calls that were made,
+from 0, and what it found. It writes no file: what the calls did is gone when it ends.
 An image whose journals hold a transaction is refused as not built yet, with status 3.
 
 Example:
@@ -61,6 +76,14 @@ Example:
 prints
   1 0 0 ok
   2 0 1 names a
+and on two cores whose handles meet
+  printf '0 begin mkdir /a\\n0 take\\n1 mkdir /b\\n0 stop\\n1 mkdir /b\\n' | zj play
+prints
+  1 0 begun
+  2 0 took 8
+  3 1 busy 8 0
+  4 0 0 ok
+  5 1 1 ok
 
 check
 It reads the image and changes nothing. It prints one line for each journal: where

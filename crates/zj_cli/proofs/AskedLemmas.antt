@@ -20,7 +20,7 @@ round {X = X} xs i x at = let one : suc i ≡ i + 1 = omega arith in subst (λ (
     by (y ∷ ys) zero e = ap (λ (z : X). z ∷ ys) (cc (e))
     by (y ∷ ys) (suc k) e = ap (λ (zs : List X). y ∷ zs) (by ys k e)
 
-take_next : {X : Type 0} (xs : List X) (i : ℕ) (x : X) → slice_get xs i ≡ Some x → take (i + 1) xs ≡ take i xs ++ x ∷ []
+pub take_next : {X : Type 0} (xs : List X) (i : ℕ) (x : X) → slice_get xs i ≡ Some x → take (i + 1) xs ≡ take i xs ++ x ∷ []
 take_next {X = X} xs i x at = let one : suc i ≡ i + 1 = omega arith in subst (λ (n : ℕ). take n xs ≡ take i xs ++ x ∷ []) one (by xs i at)
   where
     by : (ys : List X) (k : ℕ) → slice_get ys k ≡ Some x → take (suc k) ys ≡ take k ys ++ x ∷ []

@@ -11,15 +11,17 @@ use Rattle.zj_dev.proofs.DiskLaws.{reads_trans, rose_since}
 use Rattle.zj_block.specs.declared.numbers.Tail.{Tail}
 use Rattle.zj_block.specs.Sizes.{Numbers}
 use Rattle.zj_home.specs.Super.{Super}
+use Rattle.zj_home.specs.Made.{HoldsBlocks}
 use Rattle.zj_tx.specs.Record.{Record}
 use Rattle.zj_area.specs.Journal.{AreaView}
 use Rattle.zj_area.specs.Ring.{Holds, IsDamaged}
 use Rattle.zj_tree.specs.Tree.{FileTree}
+use Rattle.zj_layout.specs.Image.{State}
 use Rattle.zj_mount.specs.declared.fault.MountFault.{MountFault}
 use Rattle.zj_mount.specs.declared.fault.MountFault.TheVariants as mounts
 use Rattle.zj_mount.specs.declared.fault.OpenFault.{OpenFault}
 use Rattle.zj_mount.specs.declared.fault.OpenFault.TheVariants as opens
-use Rattle.zj_mount.specs.Image.{HasHome, HasJournals, OfDevice, RoseUnder, ShowsIn}
+use Rattle.zj_mount.specs.Image.{HasHome, HasJournals, OfDevice, RoseUnder}
 use Rattle.zj_mount.specs.Mounting.{AreEmpty, AreInOrder, AreReadBefore, FailsIn, HasTree, IsHomeCause, IsJournalOf, IsMountCause, IsUsedCause}
 use Rattle.zj_mount.specs.Opening.{IsOfSet, IsOpenCause}
 use Rattle.zj_mount.specs.Scanning.{AreCounted, AreaHolds, AreRead, FailsAt, HoldsSome, IsAreaCause, IsDamagedAt, StopsAt}
@@ -207,10 +209,11 @@ module _ {D : Type 0} (view : D → DiskView) (before mid now : ShelfView) (home
   at_rest : AreEmpty view old (length old) → IsAtRest before super
   at_rest empty = record { home = has_home; journals = has_journals; empty = λ core below. holds_nothing (length old) (omega arith) empty core (omega (arith, below, in_order.many)) }
 
-  pub mounts_tree : (d : D) (tree : FileTree) → view d ≡ home → HasTree view super d old tree → Mounts before super tree
-  mounts_tree d tree same has = record {
+  pub mounts_tree : (d : D) (start : State) (tree : FileTree) → view d ≡ home → HasTree view super d old start tree → Mounts before super start tree
+  mounts_tree d start tree same has = record {
     rests = at_rest has.empty;
-    shows = of_lent (before home_name) (mid home_name) home (λ image. ShowsIn super.sizes image tree) out.home_lent (subst (λ (x : DiskView). IfSome x.bytes (λ image. ShowsIn super.sizes image tree)) same has.shows);
+    held = of_lent (before home_name) (mid home_name) home (λ image. HoldsBlocks image start (length start)) out.home_lent (subst (λ (x : DiskView). IfSome x.bytes (λ image. HoldsBlocks image start (length start))) same has.held);
+    shows = has.shows;
   }
 
   -- why the journals are not all read and empty is why there is none

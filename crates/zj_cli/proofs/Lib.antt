@@ -1,5 +1,7 @@
 pub mod AskedLemmas
-pub mod AnswerLemmas
+pub mod SpellLemmas
+pub mod PlayableLemmas
+pub mod ReadyLemmas
 pub mod StreamLemmas
 pub mod WordLemmas
 pub mod Ends

@@ -29,6 +29,7 @@ use zj_dev::{Disk, Shelf, Sink, Source};
 use zj_home::Home;
 use zj_mount::{Areas, Set, close_all, mount, open_all};
 use zj_script::write_answer;
+use zj_session::laws::fit_is_run;
 use zj_session::{Service, Transcript, play as play_lines};
 use zj_tree::Bytes;
 
@@ -110,6 +111,7 @@ fn play_schedule<D: Disk, S: Source, K: Sink>(
     ensures home { home.new ≡ home.old }
     ensures unwritten { OnErr result (result ≢ Err faults.Output → out.new ≡ out.old) }
 {
+    fit_is_run();
     let text = read_whole(alloc, input)?;
     let schedule = read_built(alloc, cores, &text)?;
     let mut transcript = Transcript::new(alloc);
