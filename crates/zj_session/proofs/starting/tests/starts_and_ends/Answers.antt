@@ -6,7 +6,7 @@ use Rattle.zj_session.proofs.Journals.{mounted_journals, mounted_shows}
 use Rattle.zj_session.proofs.starting.tests.starts_and_ends.Goals as goal
 
 pub start-requires-clause-shows : goal.start-requires-clause-shows
-start-requires-clause-shows g c = mounted_shows c.in-Ok-mount.recovered _ c.in-Ok-mount.ensures.sizes c.in-Ok-mount.ensures.shows
+start-requires-clause-shows g c = mounted_shows c.in-Ok-mount.recovered _ c.in-Ok-mount.ensures.sizes c.in-Ok-mount.ensures.tree.shows
 
 pub start-requires-clause-journals : goal.start-requires-clause-journals
 start-requires-clause-journals g c =
