@@ -8,7 +8,7 @@ use Rattle.zj_block.specs.Sizes.{Numbers}
 use Rattle.zj_history.specs.Legal.{IsLegal}
 use Rattle.zj_history.specs.Operation.{Operation}
 use Rattle.zj_history.specs.State.{BlockState, after}
-use Rattle.zj_layout.proofs.Follow.{none_some, some_is}
+use Rattle.zj_layout.proofs.Follow.{none_some}
 use Rattle.zj_script.specs.declared.line.Act.{Act}
 use Rattle.zj_script.specs.declared.line.Line.{Line}
 use Rattle.zj_script.specs.declared.answer.Form.{Form}

@@ -1,5 +1,5 @@
 -- Answers that are right, and cores that go on, by what the answer says.
-use Rattle.std.proofs.Common.{◌≡◌, ◌≢◌, ◌⊎◌, inl, inr, ℕ, Bool, true, false, true≢false, is_some, List, [], ◌∷◌, ◌++◌, length, Option, Some, IsSome, IsSomeAnd, slice_get, refl, sym, ap, ◌∙◌, subst}
+use Rattle.std.proofs.Common.{◌≡◌, ◌⊎◌, inl, inr, ℕ, Bool, true, false, true≢false, is_some, List, [], ◌∷◌, ◌++◌, length, Option, Some, IsSome, IsSomeAnd, slice_get, refl, sym, ap, ◌∙◌, subst}
 use Rattle.std.specs.Ordering.{nat_cmp}
 use Rattle.std.specs.FinMap as finmap
 use Rattle.zj_block.specs.Sizes.{Numbers}
@@ -22,7 +22,7 @@ use Rattle.zj_session.specs.Played.{IsDrawn, IsHeldBy, IsRight, OpenHandle, Play
 use Rattle.zj_session.specs.Service.{IsServing}
 use Rattle.zj_session.proofs.Contents.{content_there, held_there, next_due, no_more_performed}
 use Rattle.zj_session.proofs.Growing.{HasDone, done_drawn, ticket_next, told_more, told_place}
-use Rattle.zj_session.proofs.Roots.{busy_of, excluded, is_held_by, not_holding, same_busy, then_free}
+use Rattle.zj_session.proofs.Roots.{busy_of, excluded, is_held_by, same_busy, then_free}
 use Rattle.zj_session.proofs.Serving.{GoesOn}
 use Rattle.zj_session.proofs.Steps.{before, before_loaded, before_told, handle, met, sizes_are}
 use Rattle.zj_session.proofs.Views.{HasMet, core_then, met_holds, others_then}

@@ -4,6 +4,8 @@ use Rattle.std.specs.FinMap as finmap
 use Rattle.std.proofs.lemmas.Option.{slice_get-get_or}
 use Rattle.zj_block.specs.Sizes.{Numbers}
 use Rattle.zj_history.specs.Operation.{Operation}
+use Rattle.zj_script.specs.declared.answer.Form.{Form}
+use Rattle.zj_script.specs.declared.answer.Form.TheVariants as forms
 use Rattle.zj_tree.specs.declared.call.Call.{Call}
 use Rattle.zj_turns.specs.Passes.{CacheParameters, PassState, holds, mine}
 use Rattle.zj_core.specs.declared.fault.TakeFault.TheVariants as takes
@@ -11,8 +13,6 @@ use Rattle.zj_core.specs.Core.{CoreState, IsOf, IsSteady, IsTakeCause}
 use Rattle.zj_core.specs.Handle.{root_block}
 use Rattle.zj_core.specs.Steps.{IsFree}
 use Rattle.zj_session.specs.Played.{IsHeldBy, Played, blocks_of, handle_after, has_root}
-use Rattle.zj_script.specs.declared.answer.Form.{Form}
-use Rattle.zj_script.specs.declared.answer.Form.TheVariants as forms
 use Rattle.zj_session.specs.Service.{IsServing}
 use Rattle.zj_session.proofs.Contents.{is_in}
 use Rattle.zj_session.proofs.Lists.{at_all}
@@ -57,7 +57,7 @@ module _ {D : Type 0} (cache : CacheParameters) (old : List (CoreState D)) (play
       (there_or_not (slice_get old i))
 
   -- a core whose handle has not taken it holds it not, and its handle has taken none
-  pub not_holding : (i : ℕ) (c : CoreState D) → slice_get old i ≡ Some c → has_root sizes (handle_after played i) ≡ false → holds c.pass (root_block sizes) ≡ false
+  not_holding : (i : ℕ) (c : CoreState D) → slice_get old i ≡ Some c → has_root sizes (handle_after played i) ≡ false → holds c.pass (root_block sizes) ≡ false
   not_holding i c there without = (serving.told i c there).held (root_block sizes) ∙ without
 
   pub none_taken : (i : ℕ) (c : CoreState D) → slice_get old i ≡ Some c → has_root sizes (handle_after played i) ≡ false → blocks_of (handle_after played i) ≡ []

@@ -183,21 +183,22 @@ module _ (sizes : Numbers) (start : BlockState) (played : List Played) (history 
         serves = served_now;
       }
 
+  -- the answer behind so many lines is right
+  abbrev RightBehind : ℕ → Line → Form → ℕ → Type 0
+  RightBehind n line form core = IsRight sizes (after start (take (length {A = Operation} [] + tickets_in (take n played)) history)) history (length {A = Operation} [] + tickets_in (take n played)) (handle_after (take n played)) core line.act form
+
   runs_to : (n : ℕ) → n ≤ length played → RunsTo n
   runs_to zero low = runs_none
   runs_to (suc n) low = let p = element played n (omega arith) in with_core (runs_to n (omega arith)) p.0.0 p.0.1 p.0.0.core refl (fit.each n p.0 p.1) p.1
     where
-      abbrev RightHere : Line → Form → ℕ → Type 0
-      RightHere line form core = IsRight sizes (after start (take (length {A = Operation} [] + tickets_in (take n played)) history)) history (length {A = Operation} [] + tickets_in (take n played)) (handle_after (take n played)) core line.act form
-
-      with_form : RunsTo n → (line : Line) (form : Form) (core : ℕ) → slice_get played n ≡ Some (line, form) → line.core ≡ Some core → RightHere line form core → RunsTo (suc n)
+      with_form : RunsTo n → (line : Line) (form : Form) (core : ℕ) → slice_get played n ≡ Some (line, form) → line.core ≡ Some core → RightBehind n line form core → RunsTo (suc n)
       with_form r line form core at on right = elim (drew_or form) [
         | inl drew ↦ runs_more n line form at r core drew.0 drew.1 drew.2 on
             (subst (λ f. Says sizes (after start (take (length {A = Operation} [] + tickets_in (take n played)) history)) history (length {A = Operation} [] + tickets_in (take n played)) (handle_after (take n played)) core line.act f) drew.2 right.says)
         | inr none ↦ runs_on n line form at r none
       ]
 
-      with_core : RunsTo n → (line : Line) (form : Form) (c : Option ℕ) → line.core ≡ c → IsSomeAnd c (RightHere line form) → slice_get played n ≡ Some (line, form) → RunsTo (suc n)
+      with_core : RunsTo n → (line : Line) (form : Form) (c : Option ℕ) → line.core ≡ c → IsSomeAnd c (RightBehind n line form) → slice_get played n ≡ Some (line, form) → RunsTo (suc n)
       with_core r line form None is right at = absurd right
       with_core r line form (Some core) is right at = with_form r line form core at is right
 

@@ -1,5 +1,5 @@
 -- Several cores over one cache, between two lines: each knows of no core but its own, and one history has what all did.
-use Rattle.std.specs.Prelude.{◌≡◌, ◌≢◌, ℕ, ◌==◌, true, List, length, Option, Some, None, slice_get}
+use Rattle.std.specs.Prelude.{◌≡◌, ◌≢◌, ℕ, true, List, length, Option, Some, None, slice_get}
 use Rattle.std.specs.List.{All, AllPairs}
 use Rattle.std.specs.FinMap as finmap
 use Rattle.std.specs.Option.{option_map}
