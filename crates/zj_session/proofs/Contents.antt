@@ -69,7 +69,14 @@ module _ (start : BlockState) (history : List Operation) (p : PassState) (blocks
     performs = performs_same sizes (entries_held (mine p)) (contents_in (after start history) blocks) same_contents done.written call done.reply done.performs;
   }
 
--- what is held has a content
+-- what is held has a content, and the other way
+pub content_there : (p : PassState) (b : ℕ) → holds p b ≡ true → (c : List ℕ) × (content_held (mine p) b ≡ Some c)
+content_there p b held = by (finmap.get (mine p).held b) refl
+  where
+    by : (o : Option Hold) → finmap.get (mine p).held b ≡ o → (c : List ℕ) × (content_held (mine p) b ≡ Some c)
+    by None is = absurd (true≢false (sym held ∙ ap is_some is))
+    by (Some h) is = (take 64 h.loaded, ap (option_map (λ (h : Hold). take 64 h.loaded)) is)
+
 pub held_there : (p : PassState) (b : ℕ) → IsSome (content_under (entries_held (mine p)) b) → holds p b ≡ true
 held_there p b some = by (finmap.get (mine p).held b) refl (subst IsSome (held_under (mine p) b) some)
   where

@@ -1,5 +1,5 @@
 -- The handles that lines and their answers tell, and lines that fit a history with one line more.
-use Rattle.std.proofs.Common.{◌≡◌, ◌≢◌, ⊎_elim, ℕ, ◌+◌, ◌<◌, ◌≤◌, Bool, true, false, cond, List, [], ◌∷◌, ◌++◌, length, filter, fold, take, Option, Some, None, slice_get, append-nil, eq-eqb, ne_eqb, refl, sym, ap, ◌∙◌, subst, arith}
+use Rattle.std.proofs.Common.{◌≡◌, ◌≢◌, ⊎_elim, ℕ, ◌+◌, ◌<◌, ◌≤◌, Bool, true, false, cond, List, [], ◌∷◌, ◌++◌, length, filter, fold, take, Option, Some, None, IsSomeAnd, slice_get, append-nil, eq-eqb, ne_eqb, refl, sym, ap, ◌∙◌, subst, arith}
 use Rattle.std.proofs.lemmas.List.{length-append, take-append-le, take_all}
 use Rattle.std.proofs.lemmas.List.Elements.{filter-append}
 use Rattle.std.proofs.lemmas.List.Sums.{fold-append}
@@ -8,7 +8,7 @@ use Rattle.zj_block.specs.Sizes.{Numbers}
 use Rattle.zj_history.specs.Legal.{IsLegal}
 use Rattle.zj_history.specs.Operation.{Operation}
 use Rattle.zj_history.specs.State.{BlockState, after}
-use Rattle.zj_layout.proofs.Follow.{none_some, some_is}
+use Rattle.zj_layout.proofs.Follow.{none_some}
 use Rattle.zj_script.specs.declared.line.Act.{Act}
 use Rattle.zj_script.specs.declared.line.Line.{Line}
 use Rattle.zj_script.specs.declared.answer.Form.{Form}
@@ -48,8 +48,16 @@ says_more sizes state history more next handles core act (forms.Drew ticket repl
   core_is = s.core_is;
   call_is = s.call_is;
   performs = s.performs;
+  root = s.root;
+  taken = s.taken;
+  foot = s.foot;
 }
 says_more sizes state history more next handles core act form s = s
+
+-- what is so of a value is so in another way
+and_so : {X : Type 0} (P Q : X → Type 0) (o : Option X) → ((x : X) → P x → Q x) → IsSomeAnd o P → IsSomeAnd o Q
+and_so P Q None step holds = absurd holds
+and_so P Q (Some x) step holds = step x holds
 
 -- no line fits the history that was before
 pub fits_none : (sizes : Numbers) (start : BlockState) (before : List Operation) → IsLegal start before → Fit sizes start before [] before
@@ -57,7 +65,7 @@ fits_none sizes start before legal = record {
   legal = legal;
   goes_on = take_all (length before) before (omega arith);
   tickets = omega arith;
-  each = λ k core p at on. absurd (none_some at);
+  each = λ k p at. absurd (none_some at);
 }
 
 module _ (sizes : Numbers) (start : BlockState) (before : List Operation) (played : List Played) (history more : List Operation) (line : Line) (form : Form) (fit : Fit sizes start before played history) where
@@ -79,18 +87,29 @@ module _ (sizes : Numbers) (start : BlockState) (before : List Operation) (playe
   right_more front known core act form r = record {
     says = says_more sizes (after start known) history more (so_far front) (handle_after front) core act form r.says;
     order = r.order;
-    suited = r.suited;
     busy = r.busy;
   }
 
+  -- the answer at a place is right
+  abbrev RightThere : ℕ → Played → Type 0
+  RightThere k p = IsSomeAnd p.0.core (λ core. RightBehind (take k all_played) (take (so_far (take k all_played)) all_done) all_done core p.0.act p.1)
+
   -- the lines so far
-  earlier : (k core : ℕ) (p : Played) → k < length played → slice_get played k ≡ Some p → p.0.core ≡ Some core
-      → RightBehind (take k all_played) (take (so_far (take k all_played)) all_done) all_done core p.0.act p.1
-  earlier k core p low at on =
-      let few : so_far (take k played) ≤ length history = let most = fewer (λ (p : Played). has_ticket p.1) k played in let all = fit.tickets in omega arith in
-      let was : RightBehind (take k played) (take (so_far (take k played)) history) all_done core p.0.act p.1 = right_more (take k played) (take (so_far (take k played)) history) core p.0.act p.1 (fit.each k core p at on) in
-      subst (λ front. RightBehind front (take (so_far front) all_done) all_done core p.0.act p.1) (sym (take-append-le k played ((line, form) ∷ []) (omega arith)))
-      (subst (λ known. RightBehind (take k played) known all_done core p.0.act p.1) (sym (take-append-le (so_far (take k played)) history more few)) was)
+  earlier : (k : ℕ) (p : Played) → k < length played → slice_get played k ≡ Some p → RightThere k p
+  earlier k p low at = and_so
+      (λ core. RightBehind (take k played) (take (so_far (take k played)) history) history core p.0.act p.1)
+      (λ core. RightBehind (take k all_played) (take (so_far (take k all_played)) all_done) all_done core p.0.act p.1)
+      p.0.core further (fit.each k p at)
+    where
+      few : so_far (take k played) ≤ length history
+      few = let most = fewer (λ (p : Played). has_ticket p.1) k played in let all = fit.tickets in omega arith
+
+      further : (core : ℕ) → RightBehind (take k played) (take (so_far (take k played)) history) history core p.0.act p.1
+          → RightBehind (take k all_played) (take (so_far (take k all_played)) all_done) all_done core p.0.act p.1
+      further core was =
+          subst (λ front. RightBehind front (take (so_far front) all_done) all_done core p.0.act p.1) (sym (take-append-le k played ((line, form) ∷ []) (omega arith)))
+          (subst (λ known. RightBehind (take k played) known all_done core p.0.act p.1) (sym (take-append-le (so_far (take k played)) history more few))
+          (right_more (take k played) (take (so_far (take k played)) history) core p.0.act p.1 was))
 
   -- and the last one
   last : (core : ℕ) → IsRight sizes (after start history) all_done (length history) (handle_after played) core line.act form
@@ -123,16 +142,16 @@ module _ (sizes : Numbers) (start : BlockState) (before : List Operation) (playe
     legal = legal;
     goes_on = take-append-le (length before) history more (let was = fit.tickets in omega arith) ∙ fit.goes_on;
     tickets = tickets_more count;
-    each = λ k core' p at on'. ⊎_elim
-        (λ front. earlier k core' p front.0 front.1 on')
-        (λ end. at_last k core' p end.0 end.1 on')
+    each = λ k p at. ⊎_elim
+        (λ front. earlier k p front.0 front.1)
+        (λ end. at_last k p end.0 end.1)
         (at_end played (line, form) k p at);
   }
     where
-      at_last : (k core' : ℕ) (p : Played) → k ≡ length played → (line, form) ≡ p → p.0.core ≡ Some core' → RightBehind (take k all_played) (take (so_far (take k all_played)) all_done) all_done core' p.0.act p.1
-      at_last k core' p here is on' =
-          subst (λ (q : Played). RightBehind (take k all_played) (take (so_far (take k all_played)) all_done) all_done core' q.0.act q.1) is
-          (subst (λ c. RightBehind (take k all_played) (take (so_far (take k all_played)) all_done) all_done c line.act form) (some_is (sym on ∙ ap (λ (q : Played). q.0.core) is ∙ on'))
+      at_last : (k : ℕ) (p : Played) → k ≡ length played → (line, form) ≡ p → RightThere k p
+      at_last k p here is =
+          subst (λ (q : Played). RightThere k q) is
+          (subst (λ c. IsSomeAnd c (λ core'. RightBehind (take k all_played) (take (so_far (take k all_played)) all_done) all_done core' line.act form)) (sym on)
           (subst (λ n. RightBehind (take n all_played) (take (so_far (take n all_played)) all_done) all_done core line.act form) (sym here) (last core right)))
 
 pub fits_further : FitsFurther

@@ -1,5 +1,5 @@
 -- Answers that are right, and cores that go on, by what the answer says.
-use Rattle.std.proofs.Common.{◌≡◌, ◌≢◌, ◌⊎◌, inl, inr, ℕ, Bool, true, false, true≢false, is_some, List, [], ◌∷◌, ◌++◌, length, Option, Some, IfSome, slice_get, refl, sym, ap, ◌∙◌, subst}
+use Rattle.std.proofs.Common.{◌≡◌, ◌⊎◌, inl, inr, ℕ, Bool, true, false, true≢false, is_some, List, [], ◌∷◌, ◌++◌, length, Option, Some, IsSome, IsSomeAnd, slice_get, refl, sym, ap, ◌∙◌, subst}
 use Rattle.std.specs.Ordering.{nat_cmp}
 use Rattle.std.specs.FinMap as finmap
 use Rattle.zj_block.specs.Sizes.{Numbers}
@@ -18,11 +18,11 @@ use Rattle.zj_core.specs.Handle.{IsDue, IsPerformed, root_block}
 use Rattle.zj_core.specs.Steps.{IsFree, TakesMore, with_operation}
 use Rattle.zj_core.proofs.Knowing.{mine_is}
 use Rattle.zj_session.specs.Laws.{GrowsWith}
-use Rattle.zj_session.specs.Played.{IsBusy, IsDrawn, IsHeldBy, IsRight, OpenHandle, Played, Says, blocks_of, call_made, contents_in, handle_after, handle_behind, suits, takes_blocks}
+use Rattle.zj_session.specs.Played.{IsDrawn, IsHeldBy, IsRight, OpenHandle, Played, Says, call_made, contents_in, handle_after, handle_behind, has_block, has_root, is_out_of_order, takes_blocks}
 use Rattle.zj_session.specs.Service.{IsServing}
-use Rattle.zj_session.proofs.Contents.{held_there, next_due, no_more_performed}
+use Rattle.zj_session.proofs.Contents.{content_there, held_there, next_due, no_more_performed}
 use Rattle.zj_session.proofs.Growing.{HasDone, done_drawn, ticket_next, told_more, told_place}
-use Rattle.zj_session.proofs.Roots.{excluded, is_held_by, none_held, then_free}
+use Rattle.zj_session.proofs.Roots.{busy_of, excluded, is_held_by, same_busy, then_free}
 use Rattle.zj_session.proofs.Serving.{GoesOn}
 use Rattle.zj_session.proofs.Steps.{before, before_loaded, before_told, handle, met, sizes_are}
 use Rattle.zj_session.proofs.Views.{HasMet, core_then, met_holds, others_then}
@@ -35,23 +35,21 @@ pub record IsOutcome {D : Type 0} (cache : CacheParameters) (old : List (CoreSta
   pub right : IsRight core.sizes (after cache.start history) later (length history) (handle_after played) at act form
 
 module _ (sizes : Numbers) (state : BlockState) (later : List Operation) (next : ℕ) (handles : ℕ → Option OpenHandle) (at : ℕ) where
-  -- an act that suits its core, and another answer than that it doesn't
-  pub right_suited : (act : Act) (form : Form) → form ≢ forms.Order → suits (handles at) act ≡ true → Says sizes state later next handles at act form
-      → ((block holder : ℕ) → takes_blocks act ≡ true → IsHeldBy sizes handles at block holder → IsBusy form) → IsRight sizes state later next handles at act form
-  right_suited act form other suited says busy = record {
+  -- an act that suits its core
+  pub right_suited : (act : Act) (form : Form) → is_out_of_order (handles at) act ≡ false → Says sizes state later next handles at act form
+      → ((block holder : ℕ) → takes_blocks act ≡ true → IsHeldBy sizes handles at block holder → form ≡ forms.Busy block holder) → IsRight sizes state later next handles at act form
+  right_suited act form suited says busy = record {
     says = says;
-    order = λ unsuited. absurd (true≢false (sym suited ∙ unsuited));
-    suited = λ order. absurd (other order);
+    order = λ unsuited. absurd (true≢false (sym unsuited ∙ suited));
     busy = λ block holder _ takes held. busy block holder takes held;
   }
 
   -- an act that doesn't
-  pub right_order : (act : Act) → suits (handles at) act ≡ false → IsRight sizes state later next handles at act forms.Order
+  pub right_order : (act : Act) → is_out_of_order (handles at) act ≡ true → IsRight sizes state later next handles at act forms.Order
   right_order act unsuited = record {
     says = unsuited;
     order = λ _. refl;
-    suited = λ _. unsuited;
-    busy = λ block holder suited takes held. absurd (true≢false (sym suited ∙ unsuited));
+    busy = λ block holder suited takes held. absurd (true≢false (sym unsuited ∙ suited));
   }
 
 module _ {D : Type 0} (cache : CacheParameters) (old : List (CoreState D)) (played : List Played) (history : List Operation) (serving : IsServing cache old played history)
@@ -68,9 +66,16 @@ module _ {D : Type 0} (cache : CacheParameters) (old : List (CoreState D)) (play
   same_sizes : cache.sizes ≡ core.sizes
   same_sizes = sizes_are cache old played history serving at core gone at_place
 
-  -- where the handle took nothing, nothing is held
-  own_free : blocks_of own ≡ [] → holds known (root_block core.sizes) ≡ false
-  own_free none = met_holds old at known has_met core at_place (root_block core.sizes) ∙ none_held cache old played history serving core.sizes same_sizes at core at_place none (root_block core.sizes)
+  -- what is held the handle has taken
+  own_held : (b : ℕ) → holds known b ≡ has_block own b
+  own_held b = met_holds old at known has_met core at_place b ∙ (serving.told at core at_place).held b
+
+  own_free : has_root core.sizes own ≡ false → holds known (root_block core.sizes) ≡ false
+  own_free without = own_held (root_block core.sizes) ∙ without
+
+  -- one core has the root's block, and that is told
+  pub busy_told : (block holder : ℕ) → IsHeldBy core.sizes (handle_after played) at block holder → (other another : ℕ) → IsHeldBy core.sizes (handle_after played) at other another → busy_of block holder ≡ busy_of other another
+  busy_told block holder held other another held' = same_busy cache old played history serving core.sizes same_sizes at block holder other another held held'
 
   -- the root's block isn't free where another core is told to have it
   not_free : (block holder : ℕ) → IsHeldBy core.sizes (handle_after played) at block holder → IsFree known (root_block core.sizes) → ⊥
@@ -113,6 +118,9 @@ module _ {D : Type 0} (cache : CacheParameters) (old : List (CoreState D)) (play
       core_is = of_core;
       call_is = made;
       performs = done.performs;
+      root = done.root;
+      taken = λ b has. let c = content_there known b (own_held b ∙ has) in subst IsSome (sym (done.kept b c.0 c.1)) refl;
+      foot = λ b found without. done.foot b found (own_held b ∙ without);
     }
 
     pub drawn_busy : (block holder : ℕ) → IsHeldBy core.sizes (handle_after played) at block holder → ⊥
@@ -121,8 +129,8 @@ module _ {D : Type 0} (cache : CacheParameters) (old : List (CoreState D)) (play
   -- ---- a block was taken, or none is needed
 
   pub taken_says : (call : Call) (block : ℕ) → TakesNext cache core.sizes known gone.pass call block → (h : OpenHandle) → own ≡ Some h → h.call ≡ call
-      → IfSome own (λ (h : OpenHandle). IsDue core.sizes (contents_in (after cache.start history) h.taken) h.call block)
-  taken_says call block took h open_is call_is = subst (λ o. IfSome o (λ (h : OpenHandle). IsDue core.sizes (contents_in (after cache.start history) h.taken) h.call block)) (sym open_is)
+      → IsSomeAnd own (λ (h : OpenHandle). IsDue core.sizes (contents_in (after cache.start history) h.taken) h.call block)
+  taken_says call block took h open_is call_is = subst (λ o. IsSomeAnd o (λ (h : OpenHandle). IsDue core.sizes (contents_in (after cache.start history) h.taken) h.call block)) (sym open_is)
       (subst (λ c. IsDue core.sizes (contents_in (after cache.start history) h.taken) c block) (sym call_is)
       (next_due cache.start history known h.taken (before_told cache old played history serving at core gone at_place h open_is) (before_loaded cache old played history serving at core gone at_place) core.sizes call block took.needs))
 
@@ -132,8 +140,8 @@ module _ {D : Type 0} (cache : CacheParameters) (old : List (CoreState D)) (play
       not_free block holder held (took.takes.free (root_block core.sizes) (subst (λ b. holds gone.pass b ≡ true) (took.needs.first free) took.held) free)
 
   pub ready_says : (call : Call) → NeedsNoMore core.sizes known call → (h : OpenHandle) → own ≡ Some h → h.call ≡ call
-      → IfSome own (λ (h : OpenHandle). IsPerformed core.sizes (contents_in (after cache.start history) h.taken) h.call)
-  ready_says call ready h open_is call_is = subst (λ o. IfSome o (λ (h : OpenHandle). IsPerformed core.sizes (contents_in (after cache.start history) h.taken) h.call)) (sym open_is)
+      → IsSomeAnd own (λ (h : OpenHandle). IsPerformed core.sizes (contents_in (after cache.start history) h.taken) h.call)
+  ready_says call ready h open_is call_is = subst (λ o. IsSomeAnd o (λ (h : OpenHandle). IsPerformed core.sizes (contents_in (after cache.start history) h.taken) h.call)) (sym open_is)
       (subst (IsPerformed core.sizes (contents_in (after cache.start history) h.taken)) (sym call_is)
       (no_more_performed cache.start history known h.taken (before_told cache old played history serving at core gone at_place h open_is) (before_loaded cache old played history serving at core gone at_place) core.sizes call ready))
 

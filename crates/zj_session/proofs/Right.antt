@@ -1,5 +1,5 @@
 -- Whatever a line is answered, the cores go on, and the answer is right.
-use Rattle.std.proofs.Common.{◌≡◌, ℕ, true, false, true≢false, is_some, List, [], ◌∷◌, ◌++◌, length, Option, Some, None, slice_get, option_map, refl, sym, ap, ◌∙◌, subst}
+use Rattle.std.proofs.Common.{◌≡◌, ℕ, true, false, true≢false, is_some, List, [], ◌∷◌, ◌++◌, length, Option, Some, None, IsSome, slice_get, option_map, refl, sym, ap, ◌∙◌, subst}
 use Rattle.std.specs.Ordering.{nat_cmp}
 use Rattle.std.specs.FinMap as finmap
 use Rattle.zj_history.specs.Operation.{Operation}
@@ -19,11 +19,11 @@ use Rattle.zj_core.specs.Steps.{emptied}
 use Rattle.zj_core.proofs.Knowing.{mine_now}
 use Rattle.zj_session.specs.Answering.{Does, DoesIdle, DoesOpen, met_all}
 use Rattle.zj_session.specs.Laws.{AnswersAreRight}
-use Rattle.zj_session.specs.Played.{IsHeldBy, IsRight, OpenHandle, Played, blocks_of, handle_after, handle_behind, has_ticket, suits}
+use Rattle.zj_session.specs.Played.{IsHeldBy, IsRight, OpenHandle, Played, blocks_of, handle_after, handle_behind, has_ticket, is_out_of_order}
 use Rattle.zj_session.specs.Service.{IsServing}
 use Rattle.zj_session.proofs.Growing.{done_same}
-use Rattle.zj_session.proofs.Outcomes.{IsOutcome, drawn_busy, drawn_done, drawn_grows, drawn_history, drawn_none, drawn_says, missed, missed_after, no_root_after, ready_busy, ready_says, right_order, right_suited, taken_busy, taken_says}
-use Rattle.zj_session.proofs.Roots.{not_true}
+use Rattle.zj_session.proofs.Outcomes.{IsOutcome, busy_told, drawn_busy, drawn_done, drawn_grows, drawn_history, drawn_none, drawn_says, missed, missed_after, no_root_after, ready_busy, ready_says, right_order, right_suited, taken_busy, taken_says}
+use Rattle.zj_session.proofs.Roots.{none_taken, not_true}
 use Rattle.zj_session.proofs.Serving.{GoesOn, is_serving, made_there, parted, parted_holds}
 use Rattle.zj_session.proofs.Steps.{before, goes_empty, goes_same, goes_taken, grows_none, handle, met, none_open, nothing_there, sizes_are, some_open, told}
 use Rattle.zj_session.proofs.Views.{met_mine}
@@ -61,7 +61,7 @@ module _ {D : Type 0} (cache : CacheParameters) (old : List (CoreState D)) (play
   }
 
   -- an act that doesn't suit the core
-  unsuited : (act : Act) → suits own act ≡ false → handle_behind own act forms.Order ≡ own → gone ≡ met_all at old core → Out act forms.Order
+  unsuited : (act : Act) → is_out_of_order own act ≡ true → handle_behind own act forms.Order ≡ own → gone ≡ met_all at old core → Out act forms.Order
   unsuited act apart behind is = stays act forms.Order refl behind is (right_order core.sizes (after cache.start history) history (length history) (handle_after played) at act apart)
 
   -- ---- no handle is open
@@ -81,18 +81,21 @@ module _ {D : Type 0} (cache : CacheParameters) (old : List (CoreState D)) (play
               (ap (λ (c : CoreState D). c.begun) d.1 ∙ was_told)
               (ap blocks_of shut);
           grows = drawn_grows cache old played history serving at core gone at_place core.area.end.number ticket reply call d.0;
-          right = right_suited core.sizes (after cache.start history) later (length history) (handle_after played) at (acts.Call call) (forms.Drew ticket reply) (λ is. cc)
-              (ap (λ o. suits o (acts.Call call)) shut)
+          right = right_suited core.sizes (after cache.start history) later (length history) (handle_after played) at (acts.Call call) (forms.Drew ticket reply)
+              (ap (λ o. is_out_of_order o (acts.Call call)) shut)
               (drawn_says cache old played history serving at core gone at_place core.area.end.number ticket reply call d.0 (acts.Call call) refl)
-              (λ block holder _ held. drawn_busy cache old played history serving at core gone at_place core.area.end.number ticket reply call d.0 block holder held);
+              (λ block holder _ held. absurd (drawn_busy cache old played history serving at core gone at_place core.area.end.number ticket reply call d.0 block holder held));
         }
 
     call_busy : (call : Call) (block holder : ℕ) → DoesIdle cache (met_all at old core) gone (acts.Call call) (forms.Busy block holder) → Out (acts.Call call) (forms.Busy block holder)
     call_busy call block holder d = stays (acts.Call call) (forms.Busy block holder) refl refl d.1
-        (right_suited core.sizes (after cache.start history) history (length history) (handle_after played) at (acts.Call call) (forms.Busy block holder) (λ is. cc)
-        (ap (λ o. suits o (acts.Call call)) shut)
-        (refl, missed_after cache old played history serving at core gone at_place call block holder d.0.middle d.0.taken d.0.cause)
-        (λ _ _ _ _. tt))
+        (right_suited core.sizes (after cache.start history) history (length history) (handle_after played) at (acts.Call call) (forms.Busy block holder)
+        (ap (λ o. is_out_of_order o (acts.Call call)) shut)
+        (refl, held)
+        (λ other another _ told. busy_told cache old played history serving at core gone at_place block holder held other another told))
+      where
+        held : IsHeldBy core.sizes (handle_after played) at block holder
+        held = missed_after cache old played history serving at core gone at_place call block holder d.0.middle d.0.taken d.0.cause
 
     begin_begun : (call : Call) → DoesIdle cache (met_all at old core) gone (acts.Begin call) forms.Begun → Out (acts.Begin call) forms.Begun
     begin_begun call d = record {
@@ -102,9 +105,9 @@ module _ {D : Type 0} (cache : CacheParameters) (old : List (CoreState D)) (play
           (ap (λ (c : CoreState D). c.begun) d)
           (sym (ap blocks_of shut));
       grows = grows_none history forms.Begun refl;
-      right = right_suited core.sizes (after cache.start history) history (length history) (handle_after played) at (acts.Begin call) forms.Begun (λ is. cc)
-          (ap (λ o. suits o (acts.Begin call)) shut)
-          (call, refl)
+      right = right_suited core.sizes (after cache.start history) history (length history) (handle_after played) at (acts.Begin call) forms.Begun
+          (ap (λ o. is_out_of_order o (acts.Begin call)) shut)
+          ((call, refl), shut)
           (λ _ _ takes _. absurd (true≢false (sym takes)));
     }
 
@@ -112,9 +115,9 @@ module _ {D : Type 0} (cache : CacheParameters) (old : List (CoreState D)) (play
     idle (acts.Call call) (forms.Drew ticket reply) d = call_drew call ticket reply d
     idle (acts.Call call) (forms.Busy block holder) d = call_busy call block holder d
     idle (acts.Begin call) forms.Begun d = begin_begun call d
-    idle acts.Take forms.Order d = unsuited acts.Take (ap (λ o. suits o acts.Take) shut) (subst (λ o. handle_behind o acts.Take forms.Order ≡ o) (sym shut) refl) d
-    idle acts.Stop forms.Order d = unsuited acts.Stop (ap (λ o. suits o acts.Stop) shut) refl d
-    idle acts.Drop forms.Order d = unsuited acts.Drop (ap (λ o. suits o acts.Drop) shut) refl d
+    idle acts.Take forms.Order d = unsuited acts.Take (ap (λ o. is_out_of_order o acts.Take) shut) (subst (λ o. handle_behind o acts.Take forms.Order ≡ o) (sym shut) refl) d
+    idle acts.Stop forms.Order d = unsuited acts.Stop (ap (λ o. is_out_of_order o acts.Stop) shut) refl d
+    idle acts.Drop forms.Order d = unsuited acts.Drop (ap (λ o. is_out_of_order o acts.Drop) shut) refl d
     idle act form d = absurd d
 
   -- ---- a handle is open
@@ -134,25 +137,28 @@ module _ {D : Type 0} (cache : CacheParameters) (old : List (CoreState D)) (play
           (ap (λ (c : CoreState D). c.sizes) d.1)
           (ap (λ (c : CoreState D). c.begun) d.1 ∙ some ∙ ap Some (sym opened.2)));
       grows = grows_none history (forms.Took block) refl;
-      right = right_suited core.sizes (after cache.start history) history (length history) (handle_after played) at acts.Take (forms.Took block) (λ is. cc)
-          (ap (λ o. suits o acts.Take) opened.1)
+      right = right_suited core.sizes (after cache.start history) history (length history) (handle_after played) at acts.Take (forms.Took block)
+          (ap (λ o. is_out_of_order o acts.Take) opened.1)
           (refl, taken_says cache old played history serving at core gone at_place call block d.0 opened.0 opened.1 opened.2)
-          (λ other holder _ held. taken_busy cache old played history serving at core gone at_place call block d.0 other holder held);
+          (λ other holder _ held. absurd (taken_busy cache old played history serving at core gone at_place call block d.0 other holder held));
     }
 
     take_ready : Opens acts.Take forms.Ready
     take_ready d = stays acts.Take forms.Ready refl (subst (λ o. handle_behind o acts.Take forms.Ready ≡ o) (sym opened.1) refl) d.1
-        (right_suited core.sizes (after cache.start history) history (length history) (handle_after played) at acts.Take forms.Ready (λ is. cc)
-        (ap (λ o. suits o acts.Take) opened.1)
+        (right_suited core.sizes (after cache.start history) history (length history) (handle_after played) at acts.Take forms.Ready
+        (ap (λ o. is_out_of_order o acts.Take) opened.1)
         (refl, ready_says cache old played history serving at core gone at_place call d.0 opened.0 opened.1 opened.2)
-        (λ block holder _ held. ready_busy cache old played history serving at core gone at_place call d.0 block holder held))
+        (λ block holder _ held. absurd (ready_busy cache old played history serving at core gone at_place call d.0 block holder held)))
 
     take_busy : (block holder : ℕ) → Opens acts.Take (forms.Busy block holder)
     take_busy block holder d = stays acts.Take (forms.Busy block holder) refl (subst (λ o. handle_behind o acts.Take (forms.Busy block holder) ≡ o) (sym opened.1) refl) d.1
-        (right_suited core.sizes (after cache.start history) history (length history) (handle_after played) at acts.Take (forms.Busy block holder) (λ is. cc)
-        (ap (λ o. suits o acts.Take) opened.1)
-        (refl, missed cache old played history serving at core gone at_place call block holder d.0)
-        (λ _ _ _ _. tt))
+        (right_suited core.sizes (after cache.start history) history (length history) (handle_after played) at acts.Take (forms.Busy block holder)
+        (ap (λ o. is_out_of_order o acts.Take) opened.1)
+        (refl, held)
+        (λ other another _ told. busy_told cache old played history serving at core gone at_place block holder held other another told))
+      where
+        held : IsHeldBy core.sizes (handle_after played) at block holder
+        held = missed cache old played history serving at core gone at_place call block holder d.0
 
     stop_drew : (ticket : ℕ) (reply : Reply) → Opens acts.Stop (forms.Drew ticket reply)
     stop_drew ticket reply d =
@@ -165,10 +171,10 @@ module _ {D : Type 0} (cache : CacheParameters) (old : List (CoreState D)) (play
               (ap (λ (c : CoreState D). c.begun) d.1)
               refl;
           grows = drawn_grows cache old played history serving at core gone at_place core.area.end.number ticket reply call d.0;
-          right = right_suited core.sizes (after cache.start history) later (length history) (handle_after played) at acts.Stop (forms.Drew ticket reply) (λ is. cc)
-              (ap (λ o. suits o acts.Stop) opened.1)
+          right = right_suited core.sizes (after cache.start history) later (length history) (handle_after played) at acts.Stop (forms.Drew ticket reply)
+              (ap (λ o. is_out_of_order o acts.Stop) opened.1)
               (drawn_says cache old played history serving at core gone at_place core.area.end.number ticket reply call d.0 acts.Stop (sym was_told ∙ some))
-              (λ block holder _ held. drawn_busy cache old played history serving at core gone at_place core.area.end.number ticket reply call d.0 block holder held);
+              (λ block holder _ held. absurd (drawn_busy cache old played history serving at core gone at_place core.area.end.number ticket reply call d.0 block holder held));
         }
 
     module _ (block holder : ℕ) (d : DoesOpen cache (met_all at old core) gone call acts.Stop (forms.Busy block holder)) where
@@ -194,12 +200,12 @@ module _ {D : Type 0} (cache : CacheParameters) (old : List (CoreState D)) (play
             (λ b h held. absurd (nothing_there (finmap.get (mine gone.pass).held b) h (took_none b) held)))
             took_none
             (ap (λ (c : CoreState D). c.begun) d.3 ∙ was_told)
-            held_by.not_own;
+            (none_taken cache old played history serving core.sizes (sizes_are cache old played history serving at core gone at_place) at core at_place held_by.not_own);
         grows = grows_none history (forms.Busy block holder) refl;
-        right = right_suited core.sizes (after cache.start history) history (length history) (handle_after played) at acts.Stop (forms.Busy block holder) (λ is. cc)
-            (ap (λ o. suits o acts.Stop) opened.1)
+        right = right_suited core.sizes (after cache.start history) history (length history) (handle_after played) at acts.Stop (forms.Busy block holder)
+            (ap (λ o. is_out_of_order o acts.Stop) opened.1)
             (refl, held_by)
-            (λ _ _ _ _. tt);
+            (λ other another _ told. busy_told cache old played history serving at core gone at_place block holder held_by other another told);
       }
 
     drop_dropped : Opens acts.Drop forms.Dropped
@@ -215,9 +221,9 @@ module _ {D : Type 0} (cache : CacheParameters) (old : List (CoreState D)) (play
               (ap (λ (c : CoreState D). c.begun) d)
               refl;
           grows = grows_none history forms.Dropped refl;
-          right = right_suited core.sizes (after cache.start history) history (length history) (handle_after played) at acts.Drop forms.Dropped (λ is. cc)
-              (ap (λ o. suits o acts.Drop) opened.1)
-              refl
+          right = right_suited core.sizes (after cache.start history) history (length history) (handle_after played) at acts.Drop forms.Dropped
+              (ap (λ o. is_out_of_order o acts.Drop) opened.1)
+              (refl, subst IsSome (sym opened.1) refl)
               (λ _ _ takes _. absurd (true≢false (sym takes)));
         }
 
@@ -228,8 +234,8 @@ module _ {D : Type 0} (cache : CacheParameters) (old : List (CoreState D)) (play
     with_handle acts.Stop (forms.Drew ticket reply) d = stop_drew ticket reply d
     with_handle acts.Stop (forms.Busy block holder) d = stop_busy block holder d
     with_handle acts.Drop forms.Dropped d = drop_dropped d
-    with_handle (acts.Call other) forms.Order d = unsuited (acts.Call other) (ap (λ o. suits o (acts.Call other)) opened.1) refl d
-    with_handle (acts.Begin other) forms.Order d = unsuited (acts.Begin other) (ap (λ o. suits o (acts.Begin other)) opened.1) refl d
+    with_handle (acts.Call other) forms.Order d = unsuited (acts.Call other) (ap (λ o. is_out_of_order o (acts.Call other)) opened.1) refl d
+    with_handle (acts.Begin other) forms.Order d = unsuited (acts.Begin other) (ap (λ o. is_out_of_order o (acts.Begin other)) opened.1) refl d
     with_handle act form d = absurd d
 
   does_right : (begun : Option Call) → core.begun ≡ begun → (act : Act) (form : Form) → Does cache (met_all at old core) gone begun act form → Out act form

@@ -4,13 +4,15 @@ use Rattle.std.specs.FinMap as finmap
 use Rattle.std.proofs.lemmas.Option.{slice_get-get_or}
 use Rattle.zj_block.specs.Sizes.{Numbers}
 use Rattle.zj_history.specs.Operation.{Operation}
+use Rattle.zj_script.specs.declared.answer.Form.{Form}
+use Rattle.zj_script.specs.declared.answer.Form.TheVariants as forms
 use Rattle.zj_tree.specs.declared.call.Call.{Call}
 use Rattle.zj_turns.specs.Passes.{CacheParameters, PassState, holds, mine}
 use Rattle.zj_core.specs.declared.fault.TakeFault.TheVariants as takes
 use Rattle.zj_core.specs.Core.{CoreState, IsOf, IsSteady, IsTakeCause}
 use Rattle.zj_core.specs.Handle.{root_block}
 use Rattle.zj_core.specs.Steps.{IsFree}
-use Rattle.zj_session.specs.Played.{IsHeldBy, Played, blocks_of, handle_after}
+use Rattle.zj_session.specs.Played.{IsHeldBy, Played, blocks_of, handle_after, has_root}
 use Rattle.zj_session.specs.Service.{IsServing}
 use Rattle.zj_session.proofs.Contents.{is_in}
 use Rattle.zj_session.proofs.Lists.{at_all}
@@ -31,41 +33,44 @@ none_in : (blocks : List ℕ) → ((b : ℕ) → is_in b blocks ≡ true → ⊥
 none_in [] never = refl
 none_in (x ∷ blocks) never = absurd (never x (ap (λ t. t || is_in x blocks) (eq-eqb x x refl)))
 
-some_in : (blocks : List ℕ) → blocks ≢ [] → (b : ℕ) × (is_in b blocks ≡ true)
-some_in [] some = absurd (some refl)
-some_in (x ∷ blocks) some = (x, ap (λ t. t || is_in x blocks) (eq-eqb x x refl))
+-- the answer that another core has a block
+abbrev pub busy_of : ℕ → ℕ → Form
+busy_of block holder = forms.Busy block holder
 
 module _ {D : Type 0} (cache : CacheParameters) (old : List (CoreState D)) (played : List Played) (history : List Operation) (serving : IsServing cache old played history) (sizes : Numbers) (sizes_are : cache.sizes ≡ sizes) where
   sizes_of : (i : ℕ) (c : CoreState D) → slice_get old i ≡ Some c → c.sizes ≡ sizes
   sizes_of i c there = sym (at_all (λ (c : CoreState D). IsOf cache c) old serving.service.together.of i c there).sizes ∙ sizes_are
 
   -- a core that holds any block holds the root's
-  pub has_root : (i : ℕ) (c : CoreState D) → slice_get old i ≡ Some c → (b : ℕ) → holds c.pass b ≡ true → holds c.pass (root_block sizes) ≡ true
-  has_root i c there b held = subst (λ s. holds c.pass (root_block s) ≡ true) (sizes_of i c there) ((at_all IsSteady old serving.service.steady i c there).root b held)
+  pub holds_root : (i : ℕ) (c : CoreState D) → slice_get old i ≡ Some c → (b : ℕ) → holds c.pass b ≡ true → holds c.pass (root_block sizes) ≡ true
+  holds_root i c there b held = subst (λ s. holds c.pass (root_block s) ≡ true) (sizes_of i c there) ((at_all IsSteady old serving.service.steady i c there).root b held)
 
   -- no two hold it
   pub one_root : (i j : ℕ) (c d : CoreState D) → slice_get old i ≡ Some c → slice_get old j ≡ Some d → holds c.pass (root_block sizes) ≡ true → holds d.pass (root_block sizes) ≡ true → i ≡ j
   one_root i j c d here there one other = serving.service.one_root i j c d here there (subst (λ s. holds c.pass (root_block s) ≡ true) (sym sizes_are) one) (subst (λ s. holds d.pass (root_block s) ≡ true) (sym sizes_are) other)
 
-  -- a handle that is told to have taken blocks is of a core that holds the root's
-  pub told_root : (i : ℕ) → blocks_of (handle_after played i) ≢ [] → (c : CoreState D) × (slice_get old i ≡ Some c) × (holds c.pass (root_block sizes) ≡ true)
-  told_root i some = ⊎_elim
-      (λ none. absurd (some (ap blocks_of (serving.absent i none))))
-      (λ (r : (c : CoreState D) × (slice_get old i ≡ Some c)).
-      let b = some_in (blocks_of (handle_after played i)) some in
-      (r.0, r.1, has_root i r.0 r.1 b.0 ((serving.told i r.0 r.1).held b.0 ∙ b.1)))
+  -- a handle that is told to have taken the root's block is of a core that holds it
+  pub told_root : (i : ℕ) → has_root sizes (handle_after played i) ≡ true → (c : CoreState D) × (slice_get old i ≡ Some c) × (holds c.pass (root_block sizes) ≡ true)
+  told_root i has = ⊎_elim
+      (λ none. absurd (true≢false (sym has ∙ ap (has_root sizes) (serving.absent i none))))
+      (λ (r : (c : CoreState D) × (slice_get old i ≡ Some c)). (r.0, r.1, (serving.told i r.0 r.1).held (root_block sizes) ∙ has))
       (there_or_not (slice_get old i))
 
-  -- what a core holds its handle is told to have taken
-  pub held_told : (i : ℕ) (c : CoreState D) → slice_get old i ≡ Some c → (b : ℕ) → holds c.pass b ≡ true → blocks_of (handle_after played i) ≢ []
-  held_told i c there b held none = true≢false (sym held ∙ (serving.told i c there).held b ∙ ap (is_in b) none)
+  -- a core whose handle has not taken it holds it not, and its handle has taken none
+  not_holding : (i : ℕ) (c : CoreState D) → slice_get old i ≡ Some c → has_root sizes (handle_after played i) ≡ false → holds c.pass (root_block sizes) ≡ false
+  not_holding i c there without = (serving.told i c there).held (root_block sizes) ∙ without
 
-  -- a core that doesn't hold the root's block holds none
-  pub without_root : (i : ℕ) (c : CoreState D) → slice_get old i ≡ Some c → holds c.pass (root_block sizes) ≡ false → blocks_of (handle_after played i) ≡ []
-  without_root i c there free = none_in (blocks_of (handle_after played i)) (λ b taken. true≢false (sym (has_root i c there b ((serving.told i c there).held b ∙ taken)) ∙ free))
+  pub none_taken : (i : ℕ) (c : CoreState D) → slice_get old i ≡ Some c → has_root sizes (handle_after played i) ≡ false → blocks_of (handle_after played i) ≡ []
+  none_taken i c there without = none_in (blocks_of (handle_after played i)) (λ b taken. true≢false (sym (holds_root i c there b ((serving.told i c there).held b ∙ taken)) ∙ not_holding i c there without))
 
-  pub none_held : (i : ℕ) (c : CoreState D) → slice_get old i ≡ Some c → blocks_of (handle_after played i) ≡ [] → (b : ℕ) → holds c.pass b ≡ false
-  none_held i c there none b = (serving.told i c there).held b ∙ ap (is_in b) none
+  -- two that have the root's block are one
+  pub same_busy : (at block holder other another : ℕ) → IsHeldBy sizes (handle_after played) at block holder → IsHeldBy sizes (handle_after played) at other another → busy_of block holder ≡ busy_of other another
+  same_busy at block holder other another one two =
+      let c = told_root holder one.theirs in
+      let d = told_root another two.theirs in
+      let blocks : block ≡ other = one.root ∙ sym two.root in
+      let holders : holder ≡ another = one_root holder another c.0 d.0 c.1 d.1 c.2 d.2 in
+      λ i. busy_of (blocks i) (holders i)
 
   module _ (at : ℕ) (g : PassState) (met : HasMet old at g) where
     -- a block that is free no core holds
@@ -73,8 +78,8 @@ module _ {D : Type 0} (cache : CacheParameters) (old : List (CoreState D)) (play
     free_of_all b free i c there = free i (mine c.pass) (met.each i c there)
 
     -- where another core has the root's block it isn't free
-    pub excluded : (holder : ℕ) → blocks_of (handle_after played holder) ≢ [] → IsFree g (root_block sizes) → ⊥
-    excluded holder some free = let r = told_root holder some in true≢false (sym r.2 ∙ free_of_all (root_block sizes) free holder r.0 r.1)
+    pub excluded : (holder : ℕ) → has_root sizes (handle_after played holder) ≡ true → IsFree g (root_block sizes) → ⊥
+    excluded holder has free = let r = told_root holder has in true≢false (sym r.2 ∙ free_of_all (root_block sizes) free holder r.0 r.1)
 
     -- A core that misses a block, on the way of a call, misses the root's: another one has that, and it has none.
     module _ (core : CoreState D) (at_place : slice_get old at ≡ Some core) (m : PassState) (core_is : m.core ≡ at)
@@ -95,7 +100,7 @@ module _ {D : Type 0} (cache : CacheParameters) (old : List (CoreState D)) (play
       theirs = cause.1.3 (mine holding.pass) (knows holder holding apart held_there)
 
       their_root : holds holding.pass (root_block sizes) ≡ true
-      their_root = has_root holder holding held_there block theirs
+      their_root = holds_root holder holding held_there block theirs
 
       pub own_free : holds core.pass (root_block sizes) ≡ false
       own_free = not_true (holds core.pass (root_block sizes)) (λ own. apart (one_root holder at holding core held_there at_place their_root own))
@@ -110,6 +115,6 @@ module _ {D : Type 0} (cache : CacheParameters) (old : List (CoreState D)) (play
       is_held_by = record {
         root = cause.0.first then_free;
         other = apart;
-        theirs = held_told holder holding held_there block theirs;
-        not_own = without_root at core at_place own_free;
+        theirs = sym ((serving.told holder holding held_there).held (root_block sizes)) ∙ their_root;
+        not_own = sym ((serving.told at core at_place).held (root_block sizes)) ∙ own_free;
       }

@@ -1,5 +1,5 @@
 -- Lines that fit a history: the calls that were made, by their tickets, are the plain service's run.
-use Rattle.std.proofs.Common.{◌≡◌, ◌⊎◌, inl, inr, ℕ, zero, suc, ◌+◌, ◌<◌, ◌≤◌, Bool, true, false, true≢false, cond, List, [], ◌∷◌, ◌++◌, length, filter, take, Option, Some, None, IsSome, All, slice_get, refl, sym, ap, ◌∙◌, subst, arith}
+use Rattle.std.proofs.Common.{◌≡◌, ◌⊎◌, inl, inr, ℕ, zero, suc, ◌+◌, ◌<◌, ◌≤◌, Bool, true, false, true≢false, cond, List, [], ◌∷◌, ◌++◌, length, filter, take, Option, Some, None, IsSomeAnd, slice_get, refl, sym, ap, ◌∙◌, subst, arith}
 use Rattle.std.proofs.lemmas.Bool.{cases_eq}
 use Rattle.std.proofs.lemmas.List.{length-append, take_all}
 use Rattle.std.proofs.lemmas.List.Elements.{filter-append}
@@ -17,8 +17,8 @@ use Rattle.zj_script.specs.declared.line.Line.{Line}
 use Rattle.zj_script.specs.declared.answer.Form.{Form}
 use Rattle.zj_script.specs.declared.answer.Form.TheVariants as forms
 use Rattle.zj_session.specs.Laws.{FitIsRun}
-use Rattle.zj_session.specs.Played.{Fit, IsDrawn, Played, Says, call_made, handle_after, has_ticket, tickets_in}
-use Rattle.zj_session.proofs.Lists.{at_all, at_end, at_seam}
+use Rattle.zj_session.specs.Played.{Fit, IsDrawn, IsRight, Played, Says, call_made, handle_after, has_ticket, tickets_in}
+use Rattle.zj_session.proofs.Lists.{at_end, at_seam}
 
 -- ---- lists and forms
 
@@ -183,25 +183,28 @@ module _ (sizes : Numbers) (start : BlockState) (played : List Played) (history 
         serves = served_now;
       }
 
-  module _ (all_on : All (λ (p : Played). IsSome p.0.core) played) where
-    runs_to : (n : ℕ) → n ≤ length played → RunsTo n
-    runs_to zero low = runs_none
-    runs_to (suc n) low = let p = element played n (omega arith) in with_core (runs_to n (omega arith)) p.0.0 p.0.1 p.0.0.core refl (at_all (λ (q : Played). IsSome q.0.core) played all_on n p.0 p.1) p.1
-      where
-        with_form : RunsTo n → (line : Line) (form : Form) (core : ℕ) → slice_get played n ≡ Some (line, form) → line.core ≡ Some core → RunsTo (suc n)
-        with_form r line form core at on = elim (drew_or form) [
-          | inl drew ↦ runs_more n line form at r core drew.0 drew.1 drew.2 on
-              (subst (λ f. Says sizes (after start (take (length {A = Operation} [] + tickets_in (take n played)) history)) history (length {A = Operation} [] + tickets_in (take n played)) (handle_after (take n played)) core line.act f) drew.2 (fit.each n core (line, form) at on).says)
-          | inr none ↦ runs_on n line form at r none
-        ]
+  -- the answer behind so many lines is right
+  abbrev RightBehind : ℕ → Line → Form → ℕ → Type 0
+  RightBehind n line form core = IsRight sizes (after start (take (length {A = Operation} [] + tickets_in (take n played)) history)) history (length {A = Operation} [] + tickets_in (take n played)) (handle_after (take n played)) core line.act form
 
-        with_core : RunsTo n → (line : Line) (form : Form) (c : Option ℕ) → line.core ≡ c → IsSome c → slice_get played n ≡ Some (line, form) → RunsTo (suc n)
-        with_core r line form None is some at = absurd (true≢false (sym some))
-        with_core r line form (Some core) is some at = with_form r line form core at is
+  runs_to : (n : ℕ) → n ≤ length played → RunsTo n
+  runs_to zero low = runs_none
+  runs_to (suc n) low = let p = element played n (omega arith) in with_core (runs_to n (omega arith)) p.0.0 p.0.1 p.0.0.core refl (fit.each n p.0 p.1) p.1
+    where
+      with_form : RunsTo n → (line : Line) (form : Form) (core : ℕ) → slice_get played n ≡ Some (line, form) → line.core ≡ Some core → RightBehind n line form core → RunsTo (suc n)
+      with_form r line form core at on right = elim (drew_or form) [
+        | inl drew ↦ runs_more n line form at r core drew.0 drew.1 drew.2 on
+            (subst (λ f. Says sizes (after start (take (length {A = Operation} [] + tickets_in (take n played)) history)) history (length {A = Operation} [] + tickets_in (take n played)) (handle_after (take n played)) core line.act f) drew.2 right.says)
+        | inr none ↦ runs_on n line form at r none
+      ]
+
+      with_core : RunsTo n → (line : Line) (form : Form) (c : Option ℕ) → line.core ≡ c → IsSomeAnd c (RightBehind n line form) → slice_get played n ≡ Some (line, form) → RunsTo (suc n)
+      with_core r line form None is right at = absurd right
+      with_core r line form (Some core) is right at = with_form r line form core at is right
 
 pub fit_is_run : HistoryIsRun → FitIsRun
-fit_is_run law sizes start tree played history shows all_on fit =
-    let r = runs_to sizes start played history fit all_on (length played) (omega arith) in
+fit_is_run law sizes start tree played history shows fit =
+    let r = runs_to sizes start played history fit (length played) (omega arith) in
     let whole : take (length played) played ≡ played = take_all (length played) played (omega arith) in
     let many = r.called ∙ ap tickets_in whole in
     let answered = r.replied ∙ ap tickets_in whole in

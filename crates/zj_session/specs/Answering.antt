@@ -1,6 +1,7 @@
 -- What a line does on its core, which knows what all cores know.
 use Rattle.std.specs.Prelude.{◌≡◌, ◌⊎◌, ℕ, List, ◌++◌, ◌+◌, take, drop, Option, Some, None, slice_get, slice_set, ⊤}
 use Rattle.zj_tree.specs.declared.call.Call.{Call}
+use Rattle.zj_tree.specs.declared.call.Call.TheVariants as calls
 use Rattle.zj_script.specs.declared.line.Act.{Act}
 use Rattle.zj_script.specs.declared.line.Act.TheVariants as acts
 use Rattle.zj_script.specs.declared.answer.Form.{Form}
@@ -12,8 +13,10 @@ use Rattle.zj_core.specs.declared.fault.TakeFault.TheVariants as takes
 use Rattle.zj_core.specs.Core.{CoreState, IsHeldUp, IsTakeCause, NeedsNoMore, Performed, TakesNext, number_of}
 use Rattle.zj_session.specs.Gathering.{gathered, passes_of}
 
--- the acts of a handle: a whole call, and a call step by step
+-- the acts of a handle: a whole call, and a call step by step, but for an fsync, which waits for receipts
 abbrev pub IsHandled : Act → Type 0
+IsHandled (acts.Call (calls.Fsync path)) = ⊥
+IsHandled (acts.Begin (calls.Fsync path)) = ⊥
 IsHandled (acts.Call call) = ⊤
 IsHandled (acts.Begin call) = ⊤
 IsHandled acts.Take = ⊤

@@ -1,6 +1,5 @@
 -- What is so of cores that answer lines.
-use Rattle.std.specs.Prelude.{◌≡◌, ℕ, List, [], ◌∷◌, ◌++◌, cond, length, IsSome, Some, slice_get}
-use Rattle.std.specs.List.{All}
+use Rattle.std.specs.Prelude.{◌≡◌, ℕ, List, [], ◌∷◌, ◌++◌, cond, length, Some, slice_get}
 use Rattle.zj_block.specs.Sizes.{Numbers}
 use Rattle.zj_tree.specs.Tree.{FileTree}
 use Rattle.zj_layout.specs.Shows.{Shows}
@@ -39,4 +38,4 @@ FitsFurther = (sizes : Numbers) (start : BlockState) (before : List Operation) (
 -- Where lines and answers fit a history from blocks on that show a tree, the replies are the plain service's in turn.
 abbrev pub FitIsRun : Type 0
 FitIsRun = (sizes : Numbers) (start : BlockState) (tree : FileTree) (played : List Played) (history : List Operation)
-    → Shows sizes start tree → All (λ p. IsSome p.0.core) played → Fit sizes start [] played history → IsRun sizes tree played
+    → Shows sizes start tree → Fit sizes start [] played history → IsRun sizes tree played

@@ -1,7 +1,8 @@
 -- What lines and their answers tell of the cores, and what each answer says of the history so far.
-use Rattle.std.specs.Prelude.{◌≡◌, ◌≢◌, ℕ, ◌+◌, ◌==◌, Bool, true, false, List, [], ◌∷◌, ◌++◌, length, map, filter, fold, take, Option, Some, None, IfSome, slice_get, ⊤}
+use Rattle.std.specs.Prelude.{◌≡◌, ◌≢◌, ℕ, ◌+◌, ◌==◌, Bool, true, false, List, [], ◌∷◌, ◌++◌, length, map, filter, fold, take, Option, Some, None, IsSome, IsSomeAnd, slice_get}
+use Rattle.std.specs.List.{list_any}
 use Rattle.std.specs.Option.{option_map}
-use Rattle.zj_block.specs.Lists.{Entries}
+use Rattle.zj_block.specs.Lists.{Entries, content_under}
 use Rattle.zj_block.specs.Sizes.{Numbers}
 use Rattle.zj_history.specs.Operation.{Operation}
 use Rattle.zj_history.specs.State.{BlockState, after}
@@ -10,6 +11,8 @@ use Rattle.zj_tree.specs.declared.call.Call.{Call}
 use Rattle.zj_tree.specs.declared.call.Reply.{Reply}
 use Rattle.zj_tree.specs.Tree.{FileTree}
 use Rattle.zj_layout.specs.Shows.{limits_of}
+use Rattle.zj_dirs.specs.Possible.{Always}
+use Rattle.zj_inode.specs.Footprint.{Foot}
 use Rattle.zj_inode.specs.Performs.{Performs}
 use Rattle.zj_inode.specs.Run.{contents_found, replies_from}
 use Rattle.zj_script.specs.declared.line.Act.{Act}
@@ -51,6 +54,13 @@ abbrev pub blocks_of : Option OpenHandle → List ℕ
 blocks_of None = []
 blocks_of (Some h) = h.taken
 
+-- whether it has taken a block, and whether it has taken the root's
+abbrev pub has_block : Option OpenHandle → ℕ → Bool
+has_block handle b = list_any (λ taken. taken == b) (blocks_of handle)
+
+abbrev pub has_root : Numbers → Option OpenHandle → Bool
+has_root sizes handle = has_block handle (root_block sizes)
+
 -- an answer that has a ticket
 abbrev pub has_ticket : Form → Bool
 has_ticket (forms.Drew ticket reply) = true
@@ -64,14 +74,14 @@ tickets_in played = length (filter (λ p. has_ticket p.1) played)
 abbrev pub contents_in : BlockState → List ℕ → Entries
 contents_in state blocks = map (λ b. (b, content state b)) blocks
 
--- whether an act suits a core, by the handle that is open there: a call or a begin where none is, and else a take, stop or drop
-abbrev pub suits : Option OpenHandle → Act → Bool
-suits None (acts.Call call) = true
-suits None (acts.Begin call) = true
-suits (Some h) acts.Take = true
-suits (Some h) acts.Stop = true
-suits (Some h) acts.Drop = true
-suits handle act = false
+-- an act that doesn't suit a core, by the handle that is open there: a call or a begin where one is, and a take, stop or drop where none is
+abbrev pub is_out_of_order : Option OpenHandle → Act → Bool
+is_out_of_order (Some h) (acts.Call call) = true
+is_out_of_order (Some h) (acts.Begin call) = true
+is_out_of_order None acts.Take = true
+is_out_of_order None acts.Stop = true
+is_out_of_order None acts.Drop = true
+is_out_of_order handle act = false
 
 -- an act that takes blocks
 abbrev pub takes_blocks : Act → Bool
@@ -87,7 +97,8 @@ call_made acts.Stop handle = option_map (λ h. h.call) handle
 call_made act handle = None
 
 -- An answer with a ticket: the operation at that place of the history, which is the next one, is of the core, and performs the call
--- of the line, or of the handle that it stops, with the reply answered.
+-- of the line, or of the handle that it stops, with the reply answered. It found the root's block and all that the handle took, and
+-- beside that only blocks that its call may take.
 pub record IsDrawn (sizes : Numbers) (history : List Operation) (next core : ℕ) (handle : Option OpenHandle) (act : Act) (ticket : ℕ) (reply : Reply) : Type 0 where
   pub operation : Operation
   pub call : Call
@@ -96,40 +107,37 @@ pub record IsDrawn (sizes : Numbers) (history : List Operation) (next core : ℕ
   pub core_is : operation.core ≡ core
   pub call_is : call_made act handle ≡ Some call
   pub performs : Performs sizes (contents_found operation) operation.written call reply
+  pub root : IsSome (content_under (contents_found operation) (root_block sizes))
+  pub taken : (b : ℕ) → has_block handle b ≡ true → IsSome (content_under (contents_found operation) b)
+  pub foot : (b : ℕ) → IsSome (content_under (contents_found operation) b) → has_block handle b ≡ false → Always sizes (contents_found operation) (λ image. Foot sizes image call b)
 
 -- Another core is told, whose handle has taken the root's block, which the handle of this one has not.
 pub record IsHeldBy (sizes : Numbers) (handles : ℕ → Option OpenHandle) (core block holder : ℕ) : Type 0 where
   pub root : block ≡ root_block sizes
   pub other : holder ≢ core
-  pub theirs : blocks_of (handles holder) ≢ []
-  pub not_own : blocks_of (handles core) ≡ []
+  pub theirs : has_root sizes (handles holder) ≡ true
+  pub not_own : has_root sizes (handles core) ≡ false
 
--- What an answer says. A ticket is that of an operation. A handle that took a block had not taken it, and its call may take it in every
--- state that shows a tree and has the blocks that the handle took before as the history so far left them. One that is ready needs no
--- more blocks for its call. A line that is busy takes blocks, and another core has that of the root. A begin opens a handle, a
+-- What an answer says. A ticket is that of an operation. A block that a handle took it had not taken before, and its call may take it in
+-- every state that shows a tree and has the blocks that the handle took before as the history so far left them. A handle that is ready
+-- needs no more blocks for its call. A line that is busy takes blocks, and another core has that of the root. A begin opens a handle, a
 -- drop ends one, and an act that doesn't suit the core is told so.
 abbrev pub Says : Numbers → BlockState → List Operation → ℕ → (ℕ → Option OpenHandle) → ℕ → Act → Form → Type 0
 Says sizes state history next handles core act (forms.Drew ticket reply) = IsDrawn sizes history next core (handles core) act ticket reply
-Says sizes state history next handles core act (forms.Took block) = (act ≡ acts.Take) × IfSome (handles core) (λ h. IsDue sizes (contents_in state h.taken) h.call block)
-Says sizes state history next handles core act forms.Ready = (act ≡ acts.Take) × IfSome (handles core) (λ h. IsPerformed sizes (contents_in state h.taken) h.call)
+Says sizes state history next handles core act (forms.Took block) = (act ≡ acts.Take) × IsSomeAnd (handles core) (λ h. IsDue sizes (contents_in state h.taken) h.call block)
+Says sizes state history next handles core act forms.Ready = (act ≡ acts.Take) × IsSomeAnd (handles core) (λ h. IsPerformed sizes (contents_in state h.taken) h.call)
 Says sizes state history next handles core act (forms.Busy block holder) = (takes_blocks act ≡ true) × IsHeldBy sizes handles core block holder
-Says sizes state history next handles core act forms.Begun = (call : Call) × (act ≡ acts.Begin call)
-Says sizes state history next handles core act forms.Dropped = act ≡ acts.Drop
-Says sizes state history next handles core act forms.Order = suits (handles core) act ≡ false
+Says sizes state history next handles core act forms.Begun = ((call : Call) × (act ≡ acts.Begin call)) × (handles core ≡ None)
+Says sizes state history next handles core act forms.Dropped = (act ≡ acts.Drop) × IsSome (handles core)
+Says sizes state history next handles core act forms.Order = is_out_of_order (handles core) act ≡ true
 Says sizes state history next handles core act form = ⊥
 
--- an answer that is busy
-abbrev pub IsBusy : Form → Type 0
-IsBusy (forms.Busy block holder) = ⊤
-IsBusy form = ⊥
-
--- An answer is right, after a history and with these handles open: it says what is so; it is `order` exactly where the act doesn't suit
--- the core; and where it suits, and takes blocks, and another core has the root's block, it is busy.
+-- An answer is right, after a history and with these handles open: it says what is so; an act that doesn't suit the core is told so; and
+-- one that suits it, and takes blocks, is told the root's block and the other core that has it, where one has.
 pub record IsRight (sizes : Numbers) (state : BlockState) (history : List Operation) (next : ℕ) (handles : ℕ → Option OpenHandle) (core : ℕ) (act : Act) (form : Form) : Type 0 where
   pub says : Says sizes state history next handles core act form
-  pub order : suits (handles core) act ≡ false → form ≡ forms.Order
-  pub suited : form ≡ forms.Order → suits (handles core) act ≡ false
-  pub busy : (block holder : ℕ) → suits (handles core) act ≡ true → takes_blocks act ≡ true → IsHeldBy sizes handles core block holder → IsBusy form
+  pub order : is_out_of_order (handles core) act ≡ true → form ≡ forms.Order
+  pub busy : (block holder : ℕ) → is_out_of_order (handles core) act ≡ false → takes_blocks act ≡ true → IsHeldBy sizes handles core block holder → form ≡ forms.Busy block holder
 
 -- Lines, answers and one history fit, after a history that was before: it is legal, it goes on from there by the operations of the
 -- answers with a ticket, in their order, and each answer is right after the operations of the lines before it.
@@ -137,8 +145,8 @@ pub record Fit (sizes : Numbers) (start : BlockState) (before : List Operation) 
   pub legal : IsLegal start history
   pub goes_on : take (length before) history ≡ before
   pub tickets : length history ≡ length before + tickets_in played
-  pub each : (k core : ℕ) (p : Played) → slice_get played k ≡ Some p → p.0.core ≡ Some core
-      → IsRight sizes (after start (take (length before + tickets_in (take k played)) history)) history (length before + tickets_in (take k played)) (handle_after (take k played)) core p.0.act p.1
+  pub each : (k : ℕ) (p : Played) → slice_get played k ≡ Some p
+      → IsSomeAnd p.0.core (λ core. IsRight sizes (after start (take (length before + tickets_in (take k played)) history)) history (length before + tickets_in (take k played)) (handle_after (take k played)) core p.0.act p.1)
 
 -- The calls that were made, by their tickets, and the replies that were answered, are the plain service's run from a tree on.
 pub record IsRun (sizes : Numbers) (tree : FileTree) (played : List Played) : Type 0 where

@@ -27,7 +27,7 @@ pub record ServiceState (D : Type 0) : Type 0 where
 abbrev pub AreIdle : {D : Type 0} → List (CoreState D) → Type 0
 AreIdle cores = All (λ c. c.begun ≡ None) cores
 
--- What a service keeps between two schedules: its cores are all of its cache's and of one cache, and no handle is open.
+-- What a service keeps between two schedules: its cores are of one cache, and no handle is open.
 pub record IsAtRest {D : Type 0} (cache : CacheParameters) (cores : List (CoreState D)) : Type 0 where
   pub together : AreTogether cache cores
   pub idle : AreIdle cores
@@ -40,7 +40,7 @@ journals_of cores = map (λ c. c.area) cores
 abbrev pub AreJournals : {D : Type 0} → Numbers → List (AreaView D) → Type 0
 AreJournals sizes areas = (core : ℕ) → IfSome (slice_get areas core) (λ area. (area.core ≡ core) × (area.sizes ≡ sizes) × IsReady area)
 
--- a core behind the call of a handle: where one was open, it is dropped
+-- the core without the handle that is open for a call, if one is
 abbrev pub rested : {D : Type 0} → CoreState D → Option Call → CoreState D
 rested c None = c
 rested c (Some call) = without_handle c

@@ -1,6 +1,6 @@
 -- Several cores over one cache, between two lines: each knows of no core but its own, and one history has what all did.
-use Rattle.std.specs.Prelude.{◌≡◌, ◌≢◌, ℕ, ◌==◌, true, List, length, Option, Some, None, slice_get}
-use Rattle.std.specs.List.{All, AllPairs, list_any}
+use Rattle.std.specs.Prelude.{◌≡◌, ◌≢◌, ℕ, true, List, length, Option, Some, None, slice_get}
+use Rattle.std.specs.List.{All, AllPairs}
 use Rattle.std.specs.FinMap as finmap
 use Rattle.std.specs.Option.{option_map}
 use Rattle.zj_history.specs.Operation.{Operation}
@@ -10,7 +10,7 @@ use Rattle.zj_turns.specs.Views.{Hold, alone}
 use Rattle.zj_turns.specs.Passes.{CacheParameters, IsLoadedAfter, holds, mine}
 use Rattle.zj_core.specs.Handle.{root_block}
 use Rattle.zj_core.specs.Core.{CoreState, IsOf, IsSteady}
-use Rattle.zj_session.specs.Played.{OpenHandle, Played, blocks_of, handle_after}
+use Rattle.zj_session.specs.Played.{OpenHandle, Played, handle_after, has_block}
 
 -- The cores are of one cache and differ, each is at hand, and each knows of no core but its own.
 pub record AreTogether {D : Type 0} (cache : CacheParameters) (cores : List (CoreState D)) : Type 0 where
@@ -37,7 +37,7 @@ pub record IsService {D : Type 0} (cache : CacheParameters) (cores : List (CoreS
 -- A core has the handle that is told: its call is begun, and the blocks that it has taken are those that the core holds.
 pub record IsTold {D : Type 0} (c : CoreState D) (handle : Option OpenHandle) : Type 0 where
   pub begun : c.begun ≡ option_map (λ h. h.call) handle
-  pub held : (b : ℕ) → holds c.pass b ≡ list_any (λ taken. taken == b) (blocks_of handle)
+  pub held : (b : ℕ) → holds c.pass b ≡ has_block handle b
 
 -- Cores that serve calls, and have the handles and the history that the lines so far and their answers tell. No handle is told of a
 -- core that isn't there.

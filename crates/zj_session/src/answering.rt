@@ -17,7 +17,8 @@ use zj_script::{Act, Form};
 use zj_tree::Call;
 use zj_turns::Cache;
 
-/// Answers an act on its core, which knows what all cores know. `AllocError` leaves no handle open that was open before.
+/// Answers an act on its core, which knows what all cores know. `AllocError` leaves the core as it was, or drops
+/// the handle that was open.
 fn answer_act<D: Disk>(
     cache: &Cache<ShowsTree>,
     core: &mut Core<D>,
