@@ -1,4 +1,5 @@
 pub mod Acts
+pub mod Alone
 pub mod Contents
 pub mod Cores
 pub mod Fresh

@@ -18,9 +18,9 @@ use Rattle.zj_core.proofs.Knowing.{knowing_same, mine_now}
 use Rattle.zj_session.specs.Answering.{IsLeftOff, without_handle}
 use Rattle.zj_session.specs.Playing.{AreIdle, IsAtRest, journals_of, rested, resting}
 use Rattle.zj_session.specs.Service.{AreTogether, IsService}
+use Rattle.zj_session.proofs.Alone.{knows_own}
 use Rattle.zj_session.proofs.Lists.{all_at, at_all, mapped_here, mapped_next, mapped_some, pairs_at}
 use Rattle.zj_session.proofs.Onward.{IsLone, WentOn, at_pairs, map_set, went_core, went_lone, went_of, went_off}
-use Rattle.zj_session.proofs.Together.{knows_own}
 
 -- ---- one core
 
