@@ -6,11 +6,18 @@
 //!
 //! - **The lines, the answers and one history fit** (`play`, clauses `plays` and `stops`, `Fit`): the history is legal from the blocks
 //!   on that the cache was made with; the answers that have a ticket are its operations, in their order, each of its line's core,
-//!   and each performs the line's call, or that of the handle which the line stops, with the reply answered. Every other
+//!   and each performs the line's call, or that of the handle which the line stops, with the reply answered. It found the
+//!   block of the root's node and all that the handle took, and beside those only blocks that the call may take. Every other
 //!   answer is right after the operations of the lines before it (`IsRight`): `order` exactly where the act doesn't suit the core;
+<<<<<<< HEAD
 //!   `busy` exactly where it suits the core and takes blocks, and the handle of another core has that of the root's node, which
 //!   each call takes first; `took` names a block that the call may take in every state that shows a tree and has what the handle took before; `ready`
 //!   comes where the call is performed on what was taken.
+=======
+//!   `busy` exactly where the act takes blocks and the handle of another core has that of the root's node, which each call takes
+//!   first, and it names both; `took` names a block that the call may take in every state that shows a tree and has what the handle
+//!   took before; `ready` comes where the call is performed on what was taken.
+>>>>>>> 74227092fc73c97783749a79d3b9b633b361145f
 //! - Replies that fit are the plain service's in turn (`laws::fit_is_run`).
 //! - `play` ends with no handle open, also where memory runs out: then the answers are those of the lines so far. It touches no
 //!   device.
