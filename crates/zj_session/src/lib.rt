@@ -9,20 +9,15 @@
 //!   and each performs the line's call, or that of the handle which the line stops, with the reply answered. It found the
 //!   block of the root's node and all that the handle took, and beside those only blocks that the call may take. Every other
 //!   answer is right after the operations of the lines before it (`IsRight`): `order` exactly where the act doesn't suit the core;
-<<<<<<< HEAD
-//!   `busy` exactly where it suits the core and takes blocks, and the handle of another core has that of the root's node, which
-//!   each call takes first; `took` names a block that the call may take in every state that shows a tree and has what the handle took before; `ready`
-//!   comes where the call is performed on what was taken.
-=======
-//!   `busy` exactly where the act takes blocks and the handle of another core has that of the root's node, which each call takes
-//!   first, and it names both; `took` names a block that the call may take in every state that shows a tree and has what the handle
-//!   took before; `ready` comes where the call is performed on what was taken.
->>>>>>> 74227092fc73c97783749a79d3b9b633b361145f
+//!   `busy` exactly where it suits the core and takes blocks, and the handle of another core has the block of the root's node,
+//!   which each call takes first, and it names both; `took` names a block that the call may take in every state that shows a
+//!   tree and has what the handle took before; `ready` comes where the call is performed on what was taken.
 //! - Replies that fit are the plain service's in turn (`laws::fit_is_run`).
 //! - `play` ends with no handle open, also where memory runs out: then the answers are those of the lines so far. It touches no
 //!   device.
-//! - `Service::start` makes a service whose history is empty, over the blocks that were recovered; `Service::end` gives the
-//!   journals back as they are.
+//! - `Service::start` makes a service whose history is empty, over the blocks that were recovered; where memory runs out it gives
+//!   the journals back. `Service::left` tells the least number of tickets that a core may still draw, and `Service::end` gives
+//!   the journals back as they are.
 //! - `answer_line` answers one line (clause `answered`, `IsAnswered`); after it the cores go on to serve calls, and the answer is right
 //!   (`laws::answers_are_right`); lines that fit a history go on to fit (`laws::fits_further`).
 //!
