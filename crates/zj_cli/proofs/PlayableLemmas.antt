@@ -24,8 +24,28 @@ use Rattle.zj_cli.specs.Asked.{AreBuilt, is_built}
 
 -- an act that is built is one of a handle's
 handled : (act : Act) → IsTrue (is_built act) → IsHandled act
-handled (acts.Call call) is = tt
-handled (acts.Begin call) is = tt
+handled (acts.Call (calls.Mkdir path)) is = tt
+handled (acts.Call (calls.Create path)) is = tt
+handled (acts.Call (calls.Write path at bytes)) is = tt
+handled (acts.Call (calls.Read path at count)) is = tt
+handled (acts.Call (calls.Truncate path size)) is = tt
+handled (acts.Call (calls.Unlink path)) is = tt
+handled (acts.Call (calls.Rmdir path)) is = tt
+handled (acts.Call (calls.Rename from to)) is = tt
+handled (acts.Call (calls.List path)) is = tt
+handled (acts.Call (calls.Stat path)) is = tt
+handled (acts.Call (calls.Fsync path)) is = cc
+handled (acts.Begin (calls.Mkdir path)) is = tt
+handled (acts.Begin (calls.Create path)) is = tt
+handled (acts.Begin (calls.Write path at bytes)) is = tt
+handled (acts.Begin (calls.Read path at count)) is = tt
+handled (acts.Begin (calls.Truncate path size)) is = tt
+handled (acts.Begin (calls.Unlink path)) is = tt
+handled (acts.Begin (calls.Rmdir path)) is = tt
+handled (acts.Begin (calls.Rename from to)) is = tt
+handled (acts.Begin (calls.List path)) is = tt
+handled (acts.Begin (calls.Stat path)) is = tt
+handled (acts.Begin (calls.Fsync path)) is = cc
 handled acts.Take is = tt
 handled acts.Stop is = tt
 handled acts.Drop is = tt
@@ -59,17 +79,6 @@ pub playable : (cores many : ℕ) (input : List ℕ) (lines : List Line) → man
 playable cores many input lines same schedule built =
     subst (λ (n : ℕ). All (IsPlayable n) lines) (sym same)
     (λ k d below. record { core = on_core cores (get_or lines k d).core (get_or lines k d).act (schedule.can_stand k d below).core (built k d below); act = handled (get_or lines k d).act (built k d below) })
-
--- the lines that were played have cores
-some_core : (core : Option ℕ) (cores : ℕ) → IsSomeAnd core (λ c. c < cores) → IsSome core
-some_core None cores below = absurd below
-some_core (Some c) cores below = refl
-
-pub have_cores : (many : ℕ) (lines : List Line) (played : List Played) → map (λ (p : Played). p.0) played ≡ lines → All (IsPlayable many) lines → All (λ (p : Played). IsSome p.0.core) played
-have_cores many lines played same playable k d below =
-    let p = get_or played k d in
-    let here : IsPlayable many (get_or (map (λ (p : Played). p.0) played) k d.0) = subst (λ (ls : List Line). All (IsPlayable many) ls) (sym same) playable k d.0 (subst (λ (n : ℕ). k < n) (sym (length-map played (λ (p : Played). p.0))) below) in
-    some_core p.0.core many (subst (IsPlayable many) (get_or-map (λ (p : Played). p.0) played k d d.0 below) here).core
 
 -- ---- how many lines there are
 

@@ -14,6 +14,7 @@ use Rattle.zj_cli.specs.declared.status.Fault.TheVariants as faults
 -- whether an act is built: each whole call is, but for an fsync, and each step of a handle, but for a look
 abbrev pub is_built : Act → Bool
 is_built (acts.Call (calls.Fsync path)) = false
+is_built (acts.Begin (calls.Fsync path)) = false
 is_built (acts.Call call) = true
 is_built (acts.Begin call) = true
 is_built acts.Take = true

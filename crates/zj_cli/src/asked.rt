@@ -46,7 +46,7 @@ fn is_built(act: &Act) -> bool
     ensures { result ≡ is_built act.now }
 {
     match act {
-        Act::Call(Call::Fsync { .. }) => false,
+        Act::Call(Call::Fsync { .. }) | Act::Begin(Call::Fsync { .. }) => false,
         Act::Call(_) | Act::Begin(_) | Act::Take | Act::Stop | Act::Drop => true,
         Act::Look | Act::Commit | Act::Sync | Act::Checkpoint => false,
     }
