@@ -17,7 +17,10 @@ fn played(alloc: Global, input: &str) -> Result<Option<Vec<u8>>, AllocError> {
 fn handles_take_turns(rt: HostRuntime) -> Result<(), Fail> {
     let table: [(&str, &str); 14] = [
         // A handle by steps, beside the whole call.
-        ("0 begin mkdir /a\n0 take\n0 take\n0 take\n0 take\n0 stop\n0 mkdir /b\n", "1 0 begun\n2 0 took 1\n3 0 took 0\n4 0 took 3\n5 0 ready\n6 0 0 ok\n7 0 1 ok\n"),
+        (
+            "0 begin mkdir /a\n0 take\n0 take\n0 take\n0 take\n0 stop\n0 mkdir /b\n",
+            "1 0 begun\n2 0 took 1\n3 0 took 0\n4 0 took 3\n5 0 ready\n6 0 0 ok\n7 0 1 ok\n",
+        ),
         // Both cores begin; who takes first goes on, in every order of take and stop.
         (
             "0 begin mkdir /a\n1 begin mkdir /b\n0 take\n1 take\n0 stop\n1 stop\n",
@@ -57,11 +60,20 @@ fn handles_take_turns(rt: HostRuntime) -> Result<(), Fail> {
             "1 0 begun\n2 0 took 1\n3 1 busy 1 0\n4 0 dropped\n5 1 0 dir 0\n",
         ),
         // A handle that was begun and took nothing holds nobody up.
-        ("0 begin list /\n1 mkdir /a\n0 stop\n", "1 0 begun\n2 1 0 ok\n3 0 1 names a\n"),
+        (
+            "0 begin list /\n1 mkdir /a\n0 stop\n",
+            "1 0 begun\n2 1 0 ok\n3 0 1 names a\n",
+        ),
         // What doesn't suit a core.
-        ("0 take\n0 stop\n0 drop\n1 begin list /\n1 begin list /\n1 list /\n0 list /\n", "1 0 order\n2 0 order\n3 0 order\n4 1 begun\n5 1 order\n6 1 order\n7 0 0 names\n"),
+        (
+            "0 take\n0 stop\n0 drop\n1 begin list /\n1 begin list /\n1 list /\n0 list /\n",
+            "1 0 order\n2 0 order\n3 0 order\n4 1 begun\n5 1 order\n6 1 order\n7 0 0 names\n",
+        ),
         // Comments count as lines.
-        ("# two cores\n\n1 mkdir /a\n0 begin rmdir /a\n0 take\n0 drop\n1 list /\n", "3 1 0 ok\n4 0 begun\n5 0 took 1\n6 0 dropped\n7 1 1 names a\n"),
+        (
+            "# two cores\n\n1 mkdir /a\n0 begin rmdir /a\n0 take\n0 drop\n1 list /\n",
+            "3 1 0 ok\n4 0 begun\n5 0 took 1\n6 0 dropped\n7 1 1 names a\n",
+        ),
         // What is open at the end is dropped.
         ("0 begin mkdir /a\n0 take\n", "1 0 begun\n2 0 took 1\n"),
     ];
