@@ -1,5 +1,5 @@
 -- How playing a script ends, by how its answers were written.
-use Rattle.std.proofs.Common.{◌≡◌, ◌⊎◌, inl, inr, ◌++◌, ℕ, List, [], map, Option, Some, None, refl, sym, ap, subst, ◌∙◌, append-nil, arith}
+use Rattle.std.proofs.Common.{◌≡◌, ◌⊎◌, inl, inr, ◌++◌, ℕ, List, [], map, Option, Some, None, sym, ap, subst, ◌∙◌, append-nil, arith}
 use Rattle.std.specs.List.{flat_map}
 use Rattle.std.specs.Prelude.{IfErr, IsErr, OnErr, OnOk, Result, Ok, Err, option_map, ⊤}
 use Rattle.std.specs.Result.{result_and, result_err}

@@ -1,24 +1,21 @@
 -- A schedule whose acts are built can be played, by a service that was just started.
-use Rattle.std.proofs.Common.{◌≡◌, ◌∙◌, ℕ, ◌+◌, ◌-◌, ◌<◌, ◌≤◌, Bool, List, [], ◌∷◌, length, map, filter, get_or, refl, sym, ap, subst, arith}
-use Rattle.std.specs.Prelude.{Option, Some, None, IsSome, IsSomeAnd, IsTrue}
+use Rattle.std.proofs.Common.{◌≡◌, ◌∙◌, ℕ, ◌<◌, ◌≤◌, Bool, List, [], length, filter, get_or, sym, ap, subst, arith}
+use Rattle.std.specs.Prelude.{Option, Some, None, IsSomeAnd, IsTrue}
 use Rattle.std.specs.List.{All, enumerate_from}
 use Rattle.std.proofs.lemmas.Option.{slice_get-get_or}
 use Rattle.std.proofs.lemmas.List.Sums.{count_by-le-length, length-filter}
-use Rattle.std.proofs.lemmas.List.{get_or-map, length-map}
+use Rattle.std.proofs.lemmas.List.{length-map}
 use Rattle.std.proofs.lemmas.List.FromFn.{length-enumerate_from}
-use Rattle.zj_tree.specs.declared.call.Call.{Call}
 use Rattle.zj_tree.specs.declared.call.Call.TheVariants as calls
 use Rattle.zj_script.specs.declared.line.Act.{Act}
 use Rattle.zj_script.specs.declared.line.Act.TheVariants as acts
 use Rattle.zj_script.specs.declared.line.Line.{Line}
-use Rattle.zj_script.specs.declared.script.TheConstants.{MAX_LINES}
 use Rattle.zj_script.specs.Grammar.{has_core}
-use Rattle.zj_script.specs.Script.{CanStand, IsSchedule, has_act, lines_of, numbered_text}
+use Rattle.zj_script.specs.Script.{IsSchedule, has_act, lines_of, numbered_text}
 use Rattle.zj_turns.specs.Passes.{CacheParameters, left_of, mine}
 use Rattle.zj_core.specs.Core.{CoreState}
 use Rattle.zj_session.specs.Answering.{IsHandled}
 use Rattle.zj_session.specs.Playing.{IsPlayable}
-use Rattle.zj_session.specs.Played.{Played}
 use Rattle.zj_session.specs.Service.{IsService}
 use Rattle.zj_cli.specs.Asked.{AreBuilt, is_built}
 

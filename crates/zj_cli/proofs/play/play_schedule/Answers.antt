@@ -1,8 +1,5 @@
-use Rattle.std.proofs.Common.{◌≡◌, ◌∙◌, [], sym, ap, length, map, append-nil, ◌++◌}
-use Rattle.std.specs.Prelude.{List}
-use Rattle.zj_script.specs.declared.line.Line.{Line}
+use Rattle.std.proofs.Common.{◌∙◌, [], sym, length, map, append-nil}
 use Rattle.zj_session.specs.Played.{Played}
-use Rattle.zj_block.specs.Sizes.{Numbers}
 use Rattle.zj_cli.specs.Outside.{Outside}
 use Rattle.zj_cli.proofs.PlayLemmas.{script_ends, transcribed}
 use Rattle.zj_cli.proofs.PlayableLemmas.{left, playable}

@@ -1,4 +1,4 @@
-use Rattle.std.proofs.Common.{◌≡◌, ◌∙◌, inl, sym, ap, length, subst}
+use Rattle.std.proofs.Common.{◌≡◌, ◌∙◌, inl, sym, subst}
 use Rattle.std.specs.Prelude.{List}
 use Rattle.zj_area.specs.Journal.{AreaView}
 use Rattle.zj_layout.specs.Shows.{Shows}
