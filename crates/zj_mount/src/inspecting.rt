@@ -1,6 +1,6 @@
 //! The inspection of an image that was opened, whose journals may hold records.
 
-ghost use Rattle.std.specs.Prelude.{◌≡◌, ◌-◌, ◌^◌, ◌<◌, ◌≤◌, ℕ, All, Some, IfOk, IfErr, OnOk, length, map, slice_get, slice_index, true};
+ghost use Rattle.std.specs.Prelude.{◌≡◌, ◌-◌, ◌^◌, ◌<◌, ◌≤◌, ℕ, All, Some, IfOk, IfErr, IfSome, List, OnOk, length, map, slice_get, slice_index, slice_set, true};
 ghost use Rattle.zj_block.specs.Block.{IsContent};
 ghost use Rattle.zj_block.specs.declared.sizes.TheConstants.{MAX_CORES};
 ghost use Rattle.zj_closure.specs.Found.{records_of, tail_of};
@@ -50,7 +50,7 @@ pub fn inspect<D: Disk, J: Journal>(
     ensures read { AreOnlyRead (map J.journal journals.old) (map J.journal journals.new) }
 {
     let found = find_all(alloc, journals)?;
-    let kept = closed(home.sizes(), &tails_of(home), &found);
+    let kept = kept_of(home, &found);
     let (blocks, tree) = recover(alloc, home, &found, &kept)?;
     let tallies = tallies_of(alloc, home, &found, &kept)?;
     Ok(Recovered::new(*home.sizes(), tallies, blocks, tree))
@@ -101,11 +101,20 @@ fn find_one<J: Journal>(journal: &mut J, core: u32) -> Result<Found, MountFault>
     }
 }
 
+/// The greatest consistent cut of what was found.
+fn kept_of<D: Disk>(home: &Home<D>, found: &[Found]) -> Bounds
+    requires { length found.now ≡ home.now.told.sizes.cores }
+    ensures { AreKept (tail_of home.now.told.tails) found.now (slice_index result) }
+{
+    closed(home.sizes(), &tails_of(home), found)
+}
+
 /// The tails of a home, and 0 from its count of cores on.
 fn tails_of<D: Disk>(home: &Home<D>) -> Tails
     ensures tails { (core : ℕ) → tail_of result core ≡ tail_of home.now.told.tails core }
     ensures early { (core : ℕ) → tail_of result core < 2 ^ 62 }
 {
+    let _first = home.tail(0);
     let mut tails = Tails::zero();
     for core in 0..home.sizes().cores() {
         let tail = home.tail(core).unwrap();
@@ -140,13 +149,22 @@ fn recover<D: Disk>(
 fn put_images(blocks: &mut Blocks, images: &Images)
     ensures recovered { (records : List Record) → HasNewest images.now records → blocks.new ≡ recovered records blocks.old }
     ensures contents { All IsContent blocks.old }
+    ensures many { length blocks.new ≡ length blocks.old }
 {
     let _len = blocks.len();
     for i in 0..images.len() {
-        if let Some((block, image)) = images.at(i) {
-            let _put = blocks.put(block.0 as usize, image);
-        }
+        put_image(blocks, images, i);
     }
+}
+
+/// Puts the image with this place over its block, if the image has that block.
+fn put_image(blocks: &mut Blocks, images: &Images, i: usize)
+    ensures { IfSome (slice_get images.now i) (λ p. blocks.new ≡ slice_set blocks.old p.block.0 p.image) }
+{
+    let Some((block, image)) = images.at(i) else {
+        return;
+    };
+    let _put = blocks.put(block.0 as usize, image);
 }
 
 /// What the journals held of which so much is kept.
@@ -173,14 +191,21 @@ fn tally<D: Disk>(home: &Home<D>, core: u32, records: &Found, kept: &Bounds) -> 
     requires { tail_of home.now.told.tails core ≤ slice_index kept.now core }
     ensures { result ≡ record { from = tail_of home.now.told.tails core; found = length records.now; kept = slice_index kept.now core - tail_of home.now.told.tails core } }
 {
-    let from = match home.tail(core) {
-        Some(tail) => tail.number,
-        None => 0,
-    };
+    let from = start_of(home, core);
     let bound = kept.at(core).unwrap_or(0);
     Tally {
         from,
         found: records.len() as u64,
         kept: bound - from,
+    }
+}
+
+/// The number of a core's tail, and 0 from the count of cores on.
+fn start_of<D: Disk>(home: &Home<D>, core: u32) -> u64
+    ensures { result ≡ tail_of home.now.told.tails core }
+{
+    match home.tail(core) {
+        Some(tail) => tail.number,
+        None => 0,
     }
 }
