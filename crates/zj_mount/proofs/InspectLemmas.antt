@@ -8,22 +8,26 @@ use Rattle.std.proofs.lemmas.List.FromFn.{fill_by_all}
 use Rattle.std.proofs.lemmas.Option.{slice_get-map, get_or_from_slice_get}
 use Rattle.zj_block.specs.Numbers.{zero_tail, zero_tails}
 use Rattle.zj_block.specs.declared.numbers.Tail.{Tail}
+use Rattle.zj_block.specs.declared.sizes.TheConstants.{MAX_CORES}
+use Rattle.zj_dev.specs.Disk.{DiskView}
 use Rattle.zj_dev.proofs.DiskLaws.{reads_refl}
 use Rattle.zj_dev.specs.declared.device.Device.{Device}
 use Rattle.zj_tx.specs.declared.part.Part.{Part}
 use Rattle.zj_tx.specs.Record.{Record, Ascends}
 use Rattle.zj_tx.specs.Frozen.{Image, image_in}
 use Rattle.zj_tx.specs.Parts.{part_image}
-use Rattle.zj_area.specs.Journal.{JournalView}
+use Rattle.zj_area.specs.Journal.{AreaView, JournalView, journal_of}
 use Rattle.zj_closure.specs.Found.{Journals, tail_of}
 use Rattle.zj_closure.specs.Newest.{HasNewest}
 use Rattle.zj_closure.specs.Recovered.{recovered, recovered_content}
 use Rattle.zj_closure.proofs.BoundLists.{tail_of-past}
 use Rattle.zj_closure.proofs.NewestLemmas.{image_in-next, within_some, at_some}
+use Rattle.zj_home.specs.Super.{Super}
 use Rattle.zj_layout.specs.Image.{State}
 use Rattle.zj_mount.specs.declared.fault.MountFault.{MountFault}
 use Rattle.zj_mount.specs.declared.fault.MountFault.TheVariants as faults
-use Rattle.zj_mount.specs.Inspecting.{AreAllReady, AreFound, AreOnlyRead, IsFindCause, IsOneCause, IsOnlyRead, JournalHolds}
+use Rattle.zj_mount.specs.Inspecting.{AreAllReady, AreFound, AreJournals, AreOnlyRead, IsFindCause, IsJournalAt, IsOneCause, IsOnlyRead, JournalHolds}
+use Rattle.zj_mount.specs.Mounting.{AreInOrder, IsJournalOf}
 use Rattle.zj_mount.proofs.OpenLemmas.{push_at, push_before}
 use Rattle.zj_mount.proofs.ScanLemmas.{set_there, set_elsewhere}
 
@@ -115,6 +119,18 @@ module _ {J : Type 0} (view : J → JournalView) (old now : List J) (found : Jou
 
   pub seen_stop : (fault : MountFault) → IsOneCause core (view a) (view b) fault → IsFindCause (map view old) (map view (set now core b)) fault
   seen_stop fault cause = rw (map-set view now core b) (stops_here (map view old) (map view now) found core (view a) (view b) fault within there so_far cause)
+
+-- the areas of an image are its journals
+pub journals_in_order : {D : Type 0} (view : D → DiskView) (super : Super) (areas : List (AreaView D)) → AreInOrder super areas → AreJournals super (map (journal_of view) areas)
+journals_in_order {D = D} view super areas all = record {
+  many = length-map areas (journal_of view) ∙ all.many;
+  few = subst (λ (n : ℕ). n ≤ MAX_CORES) (sym (length-map areas (journal_of view))) all.few;
+  each = λ core below. rw (slice_get-map (journal_of view) areas core) (each core (slice_get areas core) (all.journals core below));
+}
+  where
+    each : (core : ℕ) (o : Option (AreaView D)) → IfSome o (IsJournalOf super core) → IfSome (option_map (journal_of view) o) (IsJournalAt super core)
+    each core None e = tt
+    each core (Some a) e = e
 
 -- ---- the tails of a home
 
