@@ -3,7 +3,7 @@
 ghost use Rattle.std.specs.Prelude.{◌≡◌, ◌-◌, ◌^◌, ◌<◌, ◌≤◌, ℕ, All, Some, IfOk, IfErr, IfSome, List, OnOk, length, map, slice_get, slice_index, slice_set, true};
 ghost use Rattle.zj_block.specs.Block.{IsContent};
 ghost use Rattle.zj_block.specs.declared.sizes.TheConstants.{MAX_CORES};
-ghost use Rattle.zj_closure.specs.Found.{records_of, tail_of};
+ghost use Rattle.zj_closure.specs.Found.{tail_of};
 ghost use Rattle.zj_closure.specs.Kept.{AreKept};
 ghost use Rattle.zj_closure.specs.Newest.{HasNewest};
 ghost use Rattle.zj_closure.specs.Recovered.{kept_records, recovered};
@@ -28,6 +28,9 @@ use zj_tx::Found;
 /// What an image holds whose journals, in the order of their cores, may hold records: reads each journal, keeps the greatest
 /// consistent cut of what was found, puts the newest images of the kept records over the blocks of home, and reads the tree
 /// that these show. It writes no device and syncs none, so what was pending on a device is pending still.
+///
+/// `Damaged` names the first journal behind an open gate of which no record stands that is due, `DiskFault` the first journal
+/// whose device failed, or home, and `NoTree` the first rule that the recovered blocks break. `Unbuilt` never comes.
 pub fn inspect<D: Disk, J: Journal>(
     alloc: Global,
     home: &mut Home<D>,
