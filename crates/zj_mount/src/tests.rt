@@ -1,4 +1,7 @@
-//! Images over memory: opened, refused and mounted.
+//! Images over memory: opened, refused, mounted and inspected.
+
+ghost use Rattle.std.specs.Prelude.{◌<◌, length};
+ghost use Rattle.zj_mount.specs.Mounting.{AreInOrder};
 
 use super::*;
 use std::alloc::{AllocError, Global};
@@ -197,6 +200,135 @@ fn mounts_what_shows_a_tree(rt: HostRuntime) -> Result<(), Fail> {
     ];
     for (home, first, second, fault) in table {
         assert_eq!(rt; mounting(&rt, alloc, &[home, first, second])?, fault);
+    }
+    Ok(())
+}
+
+/// A record of two cores: the number of its transaction, how far it follows each core, and the number, the stamp and the
+/// content, one byte over and over, of each block.
+fn record(
+    alloc: Global,
+    number: u64,
+    bounds: [u64; 2],
+    blocks: &[(u32, u64, u8)],
+) -> Result<Vec<u8>, AllocError>
+    requires few { length blocks.now < 49 }
+{
+    let mut bytes = Vec::new(alloc);
+    bytes.extend_from_slice(&1_u64.to_le_bytes())?;
+    bytes.extend_from_slice(&number.to_le_bytes())?;
+    bytes.extend_from_slice(&(blocks.len() as u32).to_le_bytes())?;
+    bytes.extend_from_slice(&2_u32.to_le_bytes())?;
+    for bound in bounds {
+        bytes.extend_from_slice(&bound.to_le_bytes())?;
+    }
+    for (block, stamp, byte) in blocks {
+        bytes.extend_from_slice(&block.to_le_bytes())?;
+        bytes.extend_from_slice(&[0; 4])?;
+        bytes.extend_from_slice(&stamp.to_le_bytes())?;
+        bytes.extend_from_slice(&[*byte; 512])?;
+    }
+    Ok(bytes)
+}
+
+/// What these devices hold, or why that can't be told.
+fn inspecting(alloc: Global, devices: &[Given]) -> Result<Result<Recovered, MountFault>, Fail> {
+    let mut shelf = shelf_of(alloc, devices)?;
+    let mut set = open_all(alloc, &mut shelf).ok().ok_or("opened")?;
+    Ok(inspect_set(alloc, &mut set.home, &mut set.areas))
+}
+
+/// What the devices of an image hold that was opened, or why that can't be told.
+fn inspect_set(
+    alloc: Global,
+    home: &mut Home<MemDisk>,
+    areas: &mut Areas<MemDisk>,
+) -> Result<Recovered, MountFault>
+    requires { AreInOrder home.old.told areas.old.areas }
+{
+    inspect(alloc, home, areas.slice_mut())
+}
+
+/// Core 1's transaction follows the first of core 0, and is newer; core 0's second one follows one that is missing.
+#[test]
+fn inspects_what_is_kept(rt: HostRuntime) -> Result<(), Fail> {
+    let alloc = rt.alloc();
+    let good = home_bytes(&rt, alloc, &format(alloc, &sizes(&rt))?)?;
+    let mut both = record(alloc, 0, [0, 0], &[(40, 1, 10)])?;
+    both.extend_from_slice(&record(alloc, 1, [0, 2], &[(40, 9, 30)])?)?;
+    let first = journal_bytes(alloc, &both)?;
+    let second = journal_bytes(alloc, &record(alloc, 0, [1, 0], &[(40, 2, 20)])?)?;
+    let devices: [Given; 3] = [
+        ("home", &good, &[]),
+        ("j0", &first, &[]),
+        ("j1", &second, &[]),
+    ];
+    let recovered = inspecting(alloc, &devices)?.ok().ok_or("inspected")?;
+    for (core, found, kept) in [
+        (0, Some(2), Some(1)),
+        (1, Some(1), Some(1)),
+        (2, None, None),
+    ] {
+        assert_eq!(rt; recovered.found(core), found);
+        assert_eq!(rt; recovered.kept(core), kept);
+    }
+    let block = recovered.blocks().at(40).ok_or("a block")?;
+    assert_eq!(rt; block.byte(0), Some(20));
+    assert_eq!(rt; recovered.tree().len(), 1, "the root alone");
+    Ok(())
+}
+
+/// A record that is kept takes the root away.
+#[test]
+fn inspects_what_shows_no_tree(rt: HostRuntime) -> Result<(), Fail> {
+    let alloc = rt.alloc();
+    let good = home_bytes(&rt, alloc, &format(alloc, &sizes(&rt))?)?;
+    let bytes = record(alloc, 0, [0, 0], &[(1, 1, 0)])?;
+    let some = journal_bytes(alloc, &bytes)?;
+    let none = journal_bytes(alloc, &[])?;
+    let mut damaged = Vec::from_slice(alloc, &bytes)?;
+    assert!(rt; damaged.len() > 8);
+    damaged[8] = 5;
+    let bad = journal_bytes(alloc, &damaged)?;
+    let device = Device::Journal(1);
+    let no_tree = MountFault::NoTree { rule: 1, block: 1 };
+    let damage = MountFault::Damaged {
+        device,
+        at: 8,
+        found: 5,
+        expected: 0,
+    };
+    let failed = MountFault::DiskFault { device };
+    let home = Device::Home;
+    let table: [(Given, Given, Given, MountFault); 4] = [
+        (
+            ("home", &good, &[]),
+            ("j0", &some, &[]),
+            ("j1", &none, &[]),
+            no_tree,
+        ),
+        (
+            ("home", &good, &[]),
+            ("j0", &some, &[]),
+            ("j1", &bad, &[]),
+            damage,
+        ),
+        (
+            ("home", &good, &[]),
+            ("j0", &some, &[]),
+            ("j1", &none, &[0]),
+            failed,
+        ),
+        (
+            ("home", &good, &[9]),
+            ("j0", &some, &[]),
+            ("j1", &none, &[]),
+            MountFault::DiskFault { device: home },
+        ),
+    ];
+    for (home, first, second, fault) in table {
+        let found = inspecting(alloc, &[home, first, second])?;
+        assert_eq!(rt; found.err(), Some(fault));
     }
     Ok(())
 }
