@@ -1,4 +1,5 @@
 pub mod CloseLemmas
+pub mod InspectLemmas
 pub mod MountLemmas
 pub mod OpenLemmas
 pub mod Opened

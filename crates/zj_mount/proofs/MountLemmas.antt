@@ -13,14 +13,11 @@ use Rattle.zj_home.specs.Super.{Super, block_bytes_in}
 use Rattle.zj_home.specs.Made.{HoldsBlocks}
 use Rattle.zj_tx.specs.Record.{Record}
 use Rattle.zj_area.specs.Journal.{AreaView}
-use Rattle.zj_tree.specs.Tree.{FileTree}
 use Rattle.zj_layout.specs.declared.faults.TreeFault.{TreeFault}
 use Rattle.zj_layout.specs.declared.faults.TreeFault.TheVariants as trees
 use Rattle.zj_layout.specs.Faults.{IsFirstFault}
 use Rattle.zj_layout.specs.Image.{image_of}
 use Rattle.zj_layout.specs.Rules.{FailsFirst}
-use Rattle.zj_layout.specs.Shows.{Shows}
-use Rattle.zj_mount.specs.Image.{ShowsIn}
 use Rattle.zj_mount.specs.Mounting.{AreEmpty, FailsIn, HoldsFirst, IsHomeCause, IsUsedCause, fault_of_tree}
 use Rattle.zj_mount.specs.Scanning.{AreCounted, AreaHolds, FailsAt, HoldsSome, IsAreaCause, IsDamagedAt, StopsAt}
 use Rattle.zj_dev.specs.declared.device.Device.{Device}

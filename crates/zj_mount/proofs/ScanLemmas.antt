@@ -11,12 +11,12 @@ use Rattle.zj_mount.proofs.OpenLemmas.{push_at, push_before}
 use Rattle.zj_dev.proofs.DiskLaws.{reads_refl}
 
 -- an element that was set
-set_there : {X : Type 0} (xs : List X) (i : ℕ) (x : X) → i < length xs → slice_get (set xs i x) i ≡ Some x
+pub set_there : {X : Type 0} (xs : List X) (i : ℕ) (x : X) → i < length xs → slice_get (set xs i x) i ≡ Some x
 set_there [] i x below = absurd (omega arith)
 set_there (y ∷ ys) zero x below = refl
 set_there (y ∷ ys) (suc i) x below = set_there ys i x (omega arith)
 
-set_elsewhere : {X : Type 0} (xs : List X) (i k : ℕ) (x : X) → k ≢ i → slice_get (set xs i x) k ≡ slice_get xs k
+pub set_elsewhere : {X : Type 0} (xs : List X) (i k : ℕ) (x : X) → k ≢ i → slice_get (set xs i x) k ≡ slice_get xs k
 set_elsewhere [] i k x other = refl
 set_elsewhere (y ∷ ys) zero zero x other = absurd (other refl)
 set_elsewhere (y ∷ ys) zero (suc k) x other = refl

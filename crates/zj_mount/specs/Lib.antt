@@ -1,5 +1,6 @@
 pub mod Areas
 pub mod Image
+pub mod Inspecting
 pub mod Lending
 pub mod Mounting
 pub mod Opening

@@ -9,6 +9,9 @@
 //! - `mount` (`blocks`, `shows`, `tree`, `journals`): home's blocks, the tree that they show, and what the journals held, none of
 //!   which holds a record. Else (`cause`) the first journal that can't be read; the first that holds a record; or why home gives
 //!   no tree. It writes no device (`home_read`, `read`).
+//! - `inspect` (`inspects`): what each journal holds, the greatest consistent cut of it, home's blocks under the newest images of
+//!   that cut, and the tree that these show. Else (`cause`) the first journal that can't be read, or why the recovered blocks
+//!   give no tree. It writes no device (`home_read`, `read`).
 //! - `journal_name` and `HOME`: under which names the devices stand.
 //! - `Areas::pop` and `Areas::push` take no memory: a place that was given up is spare (`some` and `spare`).
 #![tactic(auto)]
@@ -16,6 +19,7 @@
 mod areas;
 mod closing;
 mod fault;
+mod inspecting;
 mod mounting;
 mod names;
 mod opening;
@@ -25,6 +29,7 @@ mod scanning;
 pub use areas::Areas;
 pub use closing::close_all;
 pub use fault::{CloseFault, MountFault, OpenFault};
+pub use inspecting::inspect;
 pub use mounting::mount;
 pub use names::{HOME, journal_name};
 pub use opening::{Set, open_all};

@@ -121,7 +121,7 @@ fn read_home<D: Disk>(alloc: Global, home: &mut Home<D>) -> Result<(Blocks, Tree
 }
 
 /// The blocks of home.
-fn read_blocks<D: Disk>(alloc: Global, home: &mut Home<D>) -> Result<Blocks, MountFault>
+pub(crate) fn read_blocks<D: Disk>(alloc: Global, home: &mut Home<D>) -> Result<Blocks, MountFault>
     ensures many { IfOk result (λ blocks. length blocks ≡ home.old.told.sizes.blocks) }
     ensures held { IfOk result (λ blocks. IfSome (D.view home.old.device).bytes (λ image. HoldsBlocks image blocks (length blocks))) }
     ensures told { home.new.told ≡ home.old.told }
