@@ -1,6 +1,6 @@
 -- A schedule whose acts are built can be played, by a service that was just started.
 use Rattle.std.proofs.Common.{◌≡◌, ◌∙◌, ℕ, ◌+◌, ◌-◌, ◌<◌, ◌≤◌, Bool, List, [], ◌∷◌, length, map, filter, get_or, refl, sym, ap, subst, arith}
-use Rattle.std.specs.Prelude.{Option, Some, None, IsSome, IsSomeAnd, IsTrue}
+use Rattle.std.specs.Prelude.{◌&&◌, true, false, Option, Some, None, IsSome, IsSomeAnd, IsTrue}
 use Rattle.std.specs.List.{All, enumerate_from}
 use Rattle.std.proofs.lemmas.Option.{slice_get-get_or}
 use Rattle.std.proofs.lemmas.List.Sums.{count_by-le-length, length-filter}
@@ -12,7 +12,7 @@ use Rattle.zj_script.specs.declared.line.Act.{Act}
 use Rattle.zj_script.specs.declared.line.Act.TheVariants as acts
 use Rattle.zj_script.specs.declared.line.Line.{Line}
 use Rattle.zj_script.specs.declared.script.TheConstants.{MAX_LINES}
-use Rattle.zj_script.specs.Grammar.{has_core}
+use Rattle.zj_script.specs.Grammar.{can_begin, has_core, has_spelling, verb_of}
 use Rattle.zj_script.specs.Script.{CanStand, IsSchedule, has_act, lines_of, numbered_text}
 use Rattle.zj_turns.specs.Passes.{CacheParameters, left_of, mine}
 use Rattle.zj_core.specs.Core.{CoreState}
@@ -22,17 +22,49 @@ use Rattle.zj_session.specs.Played.{Played}
 use Rattle.zj_session.specs.Service.{IsService}
 use Rattle.zj_cli.specs.Asked.{AreBuilt, is_built}
 
+-- a call that is built is one of a handle's
+handled_call : (call : Call) → IsTrue (is_built (acts.Call call)) → IsHandled (acts.Call call)
+handled_call (calls.Mkdir path) is = tt
+handled_call (calls.Create path) is = tt
+handled_call (calls.Write path at bytes) is = tt
+handled_call (calls.Read path at count) is = tt
+handled_call (calls.Truncate path size) is = tt
+handled_call (calls.Unlink path) is = tt
+handled_call (calls.Rmdir path) is = tt
+handled_call (calls.Rename path to) is = tt
+handled_call (calls.List path) is = tt
+handled_call (calls.Stat path) is = tt
+handled_call (calls.Fsync path) is = cc
+
+never : (b : Bool) → IsTrue (b && false) → ⊥
+never true is = cc
+never false is = cc
+
+-- so is one that can be begun
+handled_begin : (call : Call) → IsTrue (has_spelling call && can_begin (verb_of call)) → IsHandled (acts.Begin call)
+handled_begin (calls.Mkdir path) can = tt
+handled_begin (calls.Create path) can = tt
+handled_begin (calls.Write path at bytes) can = tt
+handled_begin (calls.Read path at count) can = tt
+handled_begin (calls.Truncate path size) can = tt
+handled_begin (calls.Unlink path) can = tt
+handled_begin (calls.Rmdir path) can = tt
+handled_begin (calls.Rename path to) can = tt
+handled_begin (calls.List path) can = tt
+handled_begin (calls.Stat path) can = tt
+handled_begin (calls.Fsync path) can = never (has_spelling (calls.Fsync path)) can
+
 -- an act that is built is one of a handle's
-handled : (act : Act) → IsTrue (is_built act) → IsHandled act
-handled (acts.Call call) is = tt
-handled (acts.Begin call) is = tt
-handled acts.Take is = tt
-handled acts.Stop is = tt
-handled acts.Drop is = tt
-handled acts.Look is = cc
-handled acts.Commit is = cc
-handled acts.Sync is = cc
-handled acts.Checkpoint is = cc
+handled : (act : Act) → ((call : Call) → act ≡ acts.Begin call → IsTrue (has_spelling call && can_begin (verb_of call))) → IsTrue (is_built act) → IsHandled act
+handled (acts.Call call) can is = handled_call call is
+handled (acts.Begin call) can is = handled_begin call (can call refl)
+handled acts.Take can is = tt
+handled acts.Stop can is = tt
+handled acts.Drop can is = tt
+handled acts.Look can is = cc
+handled acts.Commit can is = cc
+handled acts.Sync can is = cc
+handled acts.Checkpoint can is = cc
 
 -- and has a core
 on_core : (cores : ℕ) (core : Option ℕ) (act : Act) → IsTrue (has_core cores core act) → IsTrue (is_built act) → IsSomeAnd core (λ c. c < cores)
@@ -58,18 +90,7 @@ on_core cores (Some c) acts.Checkpoint has is = cc
 pub playable : (cores many : ℕ) (input : List ℕ) (lines : List Line) → many ≡ cores → IsSchedule cores input lines → AreBuilt lines → All (IsPlayable many) lines
 playable cores many input lines same schedule built =
     subst (λ (n : ℕ). All (IsPlayable n) lines) (sym same)
-    (λ k d below. record { core = on_core cores (get_or lines k d).core (get_or lines k d).act (schedule.can_stand k d below).core (built k d below); act = handled (get_or lines k d).act (built k d below) })
-
--- the lines that were played have cores
-some_core : (core : Option ℕ) (cores : ℕ) → IsSomeAnd core (λ c. c < cores) → IsSome core
-some_core None cores below = absurd below
-some_core (Some c) cores below = refl
-
-pub have_cores : (many : ℕ) (lines : List Line) (played : List Played) → map (λ (p : Played). p.0) played ≡ lines → All (IsPlayable many) lines → All (λ (p : Played). IsSome p.0.core) played
-have_cores many lines played same playable k d below =
-    let p = get_or played k d in
-    let here : IsPlayable many (get_or (map (λ (p : Played). p.0) played) k d.0) = subst (λ (ls : List Line). All (IsPlayable many) ls) (sym same) playable k d.0 (subst (λ (n : ℕ). k < n) (sym (length-map played (λ (p : Played). p.0))) below) in
-    some_core p.0.core many (subst (IsPlayable many) (get_or-map (λ (p : Played). p.0) played k d d.0 below) here).core
+    (λ k d below. record { core = on_core cores (get_or lines k d).core (get_or lines k d).act (schedule.can_stand k d below).core (built k d below); act = handled (get_or lines k d).act (λ call is. rw is at (schedule.can_stand k d below).act) (built k d below) })
 
 -- ---- how many lines there are
 

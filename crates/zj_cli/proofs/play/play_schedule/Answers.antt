@@ -5,7 +5,7 @@ use Rattle.zj_session.specs.Played.{Played}
 use Rattle.zj_block.specs.Sizes.{Numbers}
 use Rattle.zj_cli.specs.Outside.{Outside}
 use Rattle.zj_cli.proofs.PlayLemmas.{script_ends, transcribed}
-use Rattle.zj_cli.proofs.PlayableLemmas.{have_cores, left, playable}
+use Rattle.zj_cli.proofs.PlayableLemmas.{left, playable}
 use Rattle.zj_cli.proofs.play.play_schedule.Goals as goal
 
 pub play-requires-clause-playable : goal.play-requires-clause-playable
@@ -23,7 +23,6 @@ returns-clause-ends g c tree shows names now faults since =
     let plays = c.in_ok-_ended.ensures.plays [] c.requires.fresh in
     let lines = plays.2 in
     let all : map (λ (p : Played). p.0) lines.played ≡ schedule = sym (append-nil (map (λ (p : Played). p.0) lines.played)) ∙ lines.lines_are in
-    let fits = playable c.args.cores (length c.args.service.now.cores) c.deref.result.now schedule c.requires.cores.1 c.in_ok-schedule.ensures.schedule c.in_ok-schedule.ensures.built in
-    let run = c.fit_is_run.ensures cache.sizes cache.start tree lines.played lines.later shows (have_cores _ schedule lines.played all fits) lines.fit in
+    let run = c.fit_is_run.ensures cache.sizes cache.start tree lines.played lines.later shows lines.fit in
     script_ends cache.sizes cache.start tree before after c.in_ok-text.text.items schedule lines.played lines.later c.in_ok-answers.answers c.in_ok-text.ensures.ok (rw (c.requires.cores.0, c.deref.ensures.value) at c.in_ok-schedule.ensures.schedule) c.in_ok-schedule.ensures.built all lines.fit run
     (transcribed _ _ plays.0 lines.played _ c.new-transcript.ensures plays.1 lines.answers_are c.in_ok-answers.ensures) c.write_whole.result c.in_ok-text.ensures.quiet (rw c.as_slice.ensures at c.write_whole.ensures.ok) c.write_whole.ensures.quiet (rw c.as_slice.ensures at c.write_whole.ensures.err) c.write_whole.ensures.cause
