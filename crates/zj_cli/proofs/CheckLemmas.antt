@@ -1,7 +1,10 @@
 -- An image that was opened, read and closed.
-use Rattle.std.proofs.Common.{◌≡◌, ◌⊎◌, ℕ, ◌<◌, ◌≤◌, List, [], ◌∷◌, length, refl, sym, subst, arith, inl, inr}
-use Rattle.std.specs.Prelude.{Option, Some, None, IfSome, IsSomeAnd, MatchOption, slice_get}
-use Rattle.std.proofs.lemmas.Option.{slice_get_within}
+use Rattle.std.proofs.Common.{◌≡◌, ◌⊎◌, ℕ, ◌<◌, ◌+◌, ◌∙◌, ap, ◌≤◌, List, [], ◌∷◌, length, refl, sym, subst, arith, inl, inr}
+use Rattle.std.specs.Prelude.{◌-◌, ◌++◌, Option, Some, None, IfSome, IsSomeAnd, MatchOption, map, slice_get, slice_index_or, zero, suc}
+use Rattle.std.specs.List.{flat_map, range_with_len}
+use Rattle.std.specs.Option.{option_map, unwrap_or}
+use Rattle.std.proofs.lemmas.List.{length-map}
+use Rattle.std.proofs.lemmas.Option.{get_or_from_slice_get, slice_get-map, slice_get_within}
 use Rattle.zj_dev.specs.Fault.{Rose}
 use Rattle.zj_dev.specs.Disk.{DiskView, OnlyReads}
 use Rattle.zj_dev.specs.Shelf.{ShelfView, Slot, Untold, Absent, Out, Stands}
@@ -13,25 +16,32 @@ use Rattle.zj_block.specs.Sizes.{Numbers}
 use Rattle.zj_home.specs.Super.{Super}
 use Rattle.zj_home.specs.Made.{HoldsBlocks}
 use Rattle.zj_tx.specs.Record.{Record}
-use Rattle.zj_area.specs.Journal.{AreaView}
+use Rattle.zj_area.specs.Journal.{AreaView, JournalView, journal_of}
 use Rattle.zj_area.specs.Ring.{Holds, IsDamaged}
+use Rattle.zj_closure.specs.Found.{Journals, records_of, tail_of}
+use Rattle.zj_closure.specs.Recovered.{kept_records}
+use Rattle.zj_closure.proofs.NewestLemmas.{cores_next}
+use Rattle.zj_history.specs.Transactions.{Bounds}
 use Rattle.zj_tree.specs.Tree.{FileTree}
 use Rattle.zj_layout.specs.Image.{State}
+use Rattle.zj_layout.specs.Shows.{Shows}
 use Rattle.zj_mount.specs.declared.fault.MountFault.{MountFault}
 use Rattle.zj_mount.specs.declared.fault.MountFault.TheVariants as mounts
 use Rattle.zj_mount.specs.declared.fault.OpenFault.{OpenFault}
 use Rattle.zj_mount.specs.declared.fault.OpenFault.TheVariants as opens
 use Rattle.zj_mount.specs.Image.{HasHome, HasJournals, OfDevice, RoseUnder}
-use Rattle.zj_mount.specs.Mounting.{AreEmpty, AreInOrder, AreReadBefore, FailsIn, HasTree, IsHomeCause, IsJournalOf, IsMountCause, IsUsedCause}
+use Rattle.zj_mount.specs.declared.recovered.Tally.{Tally}
+use Rattle.zj_mount.specs.Inspecting.{AreFound, AreJournals, AreOnlyRead, HoldKept, HomeHolds, Inspects, IsFindCause, IsInspectCause, IsJournalAt, IsOnlyRead, IsRecoverCause, JournalHolds as ViewHolds, tally_of}
+use Rattle.zj_mount.specs.Recovered.{Restored}
+use Rattle.zj_mount.specs.Mounting.{AreEmpty, AreInOrder, FailsIn, HasTree, IsHomeCause, IsJournalOf, IsMountCause, IsUsedCause}
 use Rattle.zj_mount.specs.Opening.{IsOfSet, IsOpenCause}
-use Rattle.zj_mount.specs.Scanning.{AreCounted, AreaHolds, AreRead, FailsAt, HoldsSome, IsAreaCause, IsDamagedAt, StopsAt}
+use Rattle.zj_mount.specs.Scanning.{AreCounted, AreaHolds, AreRead, FailsAt, HoldsSome, IsDamagedAt}
 use Rattle.zj_mount.specs.Set.{IsBack, IsClosed, IsLent, IsOut, IsPutBack, home_name, journal_name}
 use Rattle.zj_mount.proofs.SetLemmas.{rose_put}
 use Rattle.zj_cli.specs.declared.status.Fault.{Fault}
 use Rattle.zj_cli.specs.declared.status.Fault.TheVariants as faults
-use Rattle.zj_cli.specs.declared.status.ImageFault.{ImageFault}
 use Rattle.zj_cli.specs.declared.status.ImageFault.TheVariants as images
-use Rattle.zj_cli.specs.Check.{AllHold, Checks, IsCountingCause, IsDeviceCause, IsDevicesCause, IsImageCause, IsReadTo, IsUntoldSet, JournalHolds, OfJournal, Prints, journal_text}
+use Rattle.zj_cli.specs.Check.{AllHold, IsDeviceCause, IsDevicesCause, IsHeld, IsImageCause, IsReadingCause, IsReadTo, IsTold, JournalHolds, OfJournal, Spelling, Tells, check_text, journal_text, restored_text, size_text, tally_text}
 use Rattle.zj_cli.specs.Faults.{fault_of_mounting, fault_of_opening}
 use Rattle.zj_cli.specs.Mount.{HoldNothing, IsAtRest, IsFirstUsed, Mounts}
 use Rattle.zj_cli.proofs.PlayLemmas.{IsTreesCause}
@@ -45,28 +55,67 @@ open_cause before now f f' (opens.DiskFault (devices.Journal core)) cause = absu
 open_cause before now f f' (opens.ShelfFault devices.Home) cause = inl cause
 open_cause before now f f' (opens.ShelfFault (devices.Journal core)) cause = inl cause
 open_cause before now f f' opens.NoMemory cause = tt
-open_cause before now f f' (opens.Absent device) cause = cause
-open_cause before now f f' (opens.NotAnImage at) cause = cause
-open_cause before now f f' (opens.Version found) cause = cause
-open_cause before now f f' (opens.Sizes device found expected) cause = cause
+open_cause before now f f' (opens.Absent device) cause = inl cause
+open_cause before now f f' (opens.NotAnImage at) cause = inl cause
+open_cause before now f f' (opens.Version found) cause = inl cause
+open_cause before now f f' (opens.Sizes device found expected) cause = inl cause
 
 -- ---- reading
 
--- what `check` prints of what was counted
-pub prints : {D : Type 0} (view : D → DiskView) (super : Super) (areas : List (AreaView D)) (counts : List ℕ) (tail : Tail) (found : ℕ) (text : List ℕ) → super.sizes.cores ≡ 1 → 0 < length areas → AreCounted view areas counts (length areas)
-    → slice_get counts 0 ≡ Some found → slice_get super.tails 0 ≡ Some tail → text ≡ journal_text 0 tail.number found found → Prints view super areas text
-prints view super areas counts tail found text one some counted first tail_is text_is =
-    let here = counted 0 some in
-    from (slice_get areas 0) refl (rw first at here)
-  where
-    from : (o : Option (AreaView _)) → slice_get areas 0 ≡ o → IsSomeAnd o (λ a. HoldsSome view a found) → Prints view super areas text
-    from None e h = absurd h
-    from (Some a) e h = record {
-      one_core = one;
-      records = h.0;
-      holds = rw e h.2;
-      text_is = rw (tail_is, h.1) text_is;
+-- the areas of an image are its journals
+pub are_journals : {D : Type 0} (view : D → DiskView) (super : Super) (areas : List (AreaView D)) → AreInOrder super areas → AreJournals super (map (journal_of view) areas)
+are_journals view super areas is =
+    let same : length (map (journal_of view) areas) ≡ length areas = length-map areas (journal_of view) in
+    record {
+      many = same ∙ is.many;
+      few = omega (arith, same, is.few);
+      each = λ core below. subst (λ (o : Option JournalView). IfSome o (IsJournalAt super core)) (sym (slice_get-map (journal_of view) areas core)) (one core (slice_get areas core) (is.journals core below));
     }
+  where
+    one : (core : ℕ) (o : Option (AreaView _)) → IfSome o (IsJournalOf super core) → IfSome (option_map (journal_of view) o) (IsJournalAt super core)
+    one core None is = tt
+    one core (Some a) is = is
+
+-- and where their devices were only read, so were they
+pub are_read : {D : Type 0} (view : D → DiskView) (old new : List (AreaView D)) → AreOnlyRead (map (journal_of view) old) (map (journal_of view) new) → AreRead view old new
+are_read view old new read core = one (slice_get old core) (slice_get new core) (rw (slice_get-map (journal_of view) old core, slice_get-map (journal_of view) new core) at (read core))
+  where
+    one : (o o' : Option (AreaView _)) → MatchOption (option_map (journal_of view) o) (option_map (journal_of view) o' ≡ None) (λ a. IsSomeAnd (option_map (journal_of view) o') (IsOnlyRead a))
+        → MatchOption o (o' ≡ None) (λ a. IsSomeAnd o' (λ b. OnlyReads (view a.device) (view b.device)))
+    one None None is = refl
+    one None (Some b) is = cc
+    one (Some a) None is = absurd is
+    one (Some a) (Some b) is = is.reads
+
+-- ---- the text
+
+same_lines : (f g : ℕ → List ℕ) (n : ℕ) → ((core : ℕ) → core < n → f core ≡ g core) → flat_map f (range_with_len 0 n) ≡ flat_map g (range_with_len 0 n)
+same_lines f g zero same = refl
+same_lines f g (suc n) same =
+    let e : n + 1 ≡ suc n = omega arith in
+    subst (λ (k : ℕ). flat_map f (range_with_len 0 k) ≡ flat_map g (range_with_len 0 k)) e
+    (cores_next f n ∙ ap (λ (front : List ℕ). front ++ f n) (same_lines f g n (λ core below. same core (omega (arith, below)))) ∙ ap (λ (line : List ℕ). flat_map g (range_with_len 0 n) ++ line) (same n (omega arith))
+    ∙ sym (cores_next g n))
+
+-- the text of what an inspection gave is that of what is recovered
+pub told_check : (super : Super) (home : DiskView) (journals : List JournalView) (r : Restored) (text : List ℕ) → Inspects super home journals r → text ≡ restored_text r → IsTold check_text super home journals text
+told_check super home journals r text is same = record {
+  found = is.found;
+  kept = is.kept;
+  base = is.base;
+  tree = r.tree.tree;
+  holds = is.holds;
+  held = is.held;
+  shows = subst (λ (blocks : State). Shows super.sizes blocks r.tree.tree) is.blocks is.shows;
+  text_is = same ∙ ap (λ (sizes : Numbers). flat_map (tally_text r.journals) (range_with_len 0 sizes.cores) ++ size_text r.tree.tree) is.sizes
+      ∙ ap (λ (lines : List ℕ). lines ++ size_text r.tree.tree) (same_lines (tally_text r.journals) line super.sizes.cores (λ core below. ap (by core) (is.tallies core below)));
+}
+  where
+    line : ℕ → List ℕ
+    line core = journal_text core (tail_of super.tails core) (length (records_of is.found core)) (is.kept core - tail_of super.tails core)
+
+    by : ℕ → Option Tally → List ℕ
+    by core o = journal_text core (unwrap_or (option_map (λ (t : Tally). t.from) o) 0) (unwrap_or (option_map (λ (t : Tally). t.found) o) 0) (unwrap_or (option_map (λ (t : Tally). t.kept) o) 0)
 
 -- ---- what was read, of what stands on the shelf
 
@@ -137,64 +186,92 @@ module _ {D : Type 0} (view : D → DiskView) (before mid now : ShelfView) (home
       one (Some a) None e h = absurd h
       one (Some a) (Some n) e h = (h.0, of_area (λ sizes core image tail. (end : Tail) × Holds sizes core image tail h.0 end) core a e h.2)
 
-  read_to : (core : ℕ) (a : AreaView D) (P : Super → Type 0) → slice_get old core ≡ Some a → AreReadBefore view old core → P super → IsReadTo before core P
-  read_to core a P here read holds = (super, has_home, has_journals, (fits_at core a here).1, all_hold read.0 core read.1, holds)
+  read_to : (core : ℕ) (a : AreaView D) (P : Super → Type 0) → slice_get old core ≡ Some a → AllHold before super core → P super → IsReadTo before core P
+  read_to core a P here hold holds = (super, has_home, has_journals, (fits_at core a here).1, hold, holds)
 
-  -- what was printed is the text of what stands there
-  pub checks : (text : List ℕ) → Prints view super old text → Checks before text
-  checks text printed = record {
-    super = super;
-    records = printed.records;
-    home = has_home;
-    one_core = printed.one_core;
-    journals = λ core below. has_journals core (omega (arith, printed.one_core));
-    holds = one (slice_get old 0) refl printed.holds;
-    text_is = printed.text_is;
-  }
+  -- the records that were found in the areas are those of the journals
+  found_at : (found : Journals) (many core : ℕ) → AreFound (map (journal_of view) old) found many → core < many → JournalHolds before super core (records_of found core)
+  found_at found many core are below = one (slice_get old core) (slice_get found core) refl refl (rw (slice_get-map (journal_of view) old core) at (are core below))
     where
-      one : (o : Option (AreaView D)) → slice_get old 0 ≡ o → IsSomeAnd o (λ a. AreaHolds view a printed.records) → JournalHolds before super 0 printed.records
-      one None e h = absurd h
-      one (Some a) e h = of_area (λ sizes core image tail. (end : Tail) × Holds sizes core image tail printed.records end) 0 a e h
+      one : (o : Option (AreaView D)) (r : Option (List Record)) → slice_get old core ≡ o → slice_get found core ≡ r → IsSomeAnd (option_map (journal_of view) o) (λ j. IsSomeAnd r (ViewHolds j)) → JournalHolds before super core (records_of found core)
+      one None r e e' h = absurd h
+      one (Some a) None e e' h = absurd h
+      one (Some a) (Some records) e e' h =
+          subst (λ (rs : List Record). JournalHolds before super core rs) (sym (get_or_from_slice_get found core records [] e')) (of_area (λ sizes core image tail. (end : Tail) × Holds sizes core image tail records end) core a e h)
+
+  all_found : (found : Journals) (many : ℕ) → AreFound (map (journal_of view) old) found many → AllHold before super many
+  all_found found many are core below = (records_of found core, found_at found many core are below)
+
+  is_held : (found : Journals) (kept : Bounds) (base : State) → HoldKept super (map (journal_of view) old) found kept → HomeHolds super.sizes home base → IsHeld before super found kept base
+  is_held found kept base holds held = record {
+    home = has_home;
+    journals = has_journals;
+    many = holds.many;
+    records = λ core below. found_at found super.sizes.cores core holds.holds below;
+    is_kept = holds.is_kept;
+    many_blocks = held.many;
+    contents = held.contents;
+    blocks = of_lent (before home_name) (mid home_name) home (λ image. HoldsBlocks image base (length base)) out.home_lent held.held;
+  }
+
+  -- what is told of them is the text of what stands there
+  pub tells : (spelling : Spelling) (text : List ℕ) → IsTold spelling super home (map (journal_of view) old) text → Tells spelling before text
+  tells spelling text told = record {
+    super = super;
+    found = told.found;
+    kept = told.kept;
+    tree = told.tree;
+    is_recovered = record { base = told.base; held = is_held told.found told.kept told.base told.holds told.held; shows = told.shows };
+    text_is = told.text_is;
+  }
 
   -- ---- why one of them was not read
 
-  failed_at : (f f' core : ℕ) (a b : AreaView D) → slice_get old core ≡ Some a → slice_get new core ≡ Some b → AreReadBefore view old core → FailsAt view a b → IsDeviceCause before now f f' (devices.Journal core)
-  failed_at f f' core a b here there read rose =
+  failed_at : (f f' core : ℕ) (a b : AreaView D) → slice_get old core ≡ Some a → slice_get new core ≡ Some b → AllHold before super core → FailsAt view a b → IsDeviceCause before now f f' (devices.Journal core)
+  failed_at f f' core a b here there hold rose =
       let put : IsPutBack (before (journal_name core)) (now (journal_name core)) (view b.device) = rw there at (closed.journals core (fits_at core a here).0) in
-      inr (read_to core a (λ super. RoseUnder (before (journal_name core)) (now (journal_name core))) here read
+      inr (read_to core a (λ super. RoseUnder (before (journal_name core)) (now (journal_name core))) here hold
       (rose_put (before (journal_name core)) (now (journal_name core)) (view a.device) (view b.device) put (lent_faults (before (journal_name core)) (mid (journal_name core)) (view a.device) (lent_at core a here)) rose))
 
-  damaged_at : (core at found expected : ℕ) (a : AreaView D) → slice_get old core ≡ Some a → AreReadBefore view old core → IsDamagedAt view a at found expected → IsImageCause before (images.Damaged (devices.Journal core) at found expected)
-  damaged_at core at found expected a here read is =
-      read_to core a (λ super. OfJournal before super core (λ image tail. IsDamaged super.sizes core image tail at found expected)) here read
+  damaged_at : (core at found expected : ℕ) (a : AreaView D) → slice_get old core ≡ Some a → AllHold before super core → IsDamagedAt view a at found expected → IsImageCause before (images.Damaged (devices.Journal core) at found expected)
+  damaged_at core at found expected a here hold is =
+      read_to core a (λ super. OfJournal before super core (λ image tail. IsDamaged super.sizes core image tail at found expected)) here hold
       (of_area (λ sizes core image tail. IsDamaged sizes core image tail at found expected) core a here is)
 
-  -- is why the image is refused, or a device failed
-  scan_cause : (f f' : ℕ) (told : MountFault) (counts : List ℕ) → StopsAt view old new counts told → IsDevicesCause before now f f' (fault_of_mounting told)
-  scan_cause f f' told counts stops = at (slice_get old stops.core) (slice_get new stops.core) refl refl stops.here
+  -- why the journals were not all read is why the image is refused, or a device failed
+  find_cause : (f f' : ℕ) (told : MountFault) → IsFindCause (map (journal_of view) old) (map (journal_of view) new) told → IsDevicesCause before now f f' (fault_of_mounting told)
+  find_cause f f' (mounts.DiskFault devices.Home) is = absurd is
+  find_cause f f' (mounts.DiskFault (devices.Journal core)) is =
+      at (slice_get old core) (slice_get new core) refl refl (rw (slice_get-map (journal_of view) old core, slice_get-map (journal_of view) new core) at is.1)
     where
-      core : ℕ
-      core = stops.core
-
-      by_fault : (told : MountFault) (a b : AreaView D) → slice_get old core ≡ Some a → slice_get new core ≡ Some b → IsAreaCause view core a b told → IsDevicesCause before now f f' (fault_of_mounting told)
-      by_fault mounts.NoMemory a b here there is = tt
-      by_fault (mounts.DiskFault device) a b here there is = subst (λ (d : Device). IsDeviceCause before now f f' d) (sym is.0) (failed_at f f' core a b here there (counts, stops.counted) is.1)
-      by_fault (mounts.Damaged device at found expected) a b here there is =
-          subst (λ (d : Device). IsImageCause before (images.Damaged d at found expected)) (sym is.0) (damaged_at core at found expected a here (counts, stops.counted) is.1)
-      by_fault (mounts.NoTree rule block) a b here there is = absurd is
-      by_fault (mounts.Unbuilt device) a b here there is = absurd is
-
-      at : (o o' : Option (AreaView D)) → slice_get old core ≡ o → slice_get new core ≡ o' → IsSomeAnd o (λ a. IsSomeAnd o' (λ b. IsAreaCause view core a b told)) → IsDevicesCause before now f f' (fault_of_mounting told)
+      at : (o o' : Option (AreaView D)) → slice_get old core ≡ o → slice_get new core ≡ o' → IsSomeAnd (option_map (journal_of view) o) (λ a. IsSomeAnd (option_map (journal_of view) o') (λ b. Rose a.disk.faults b.disk.faults)) → IsDeviceCause before now f f' (devices.Journal core)
       at None o' e e' h = absurd h
       at (Some a) None e e' h = absurd h
-      at (Some a) (Some b) e e' h = by_fault told a b e e' h
+      at (Some a) (Some b) e e' h = failed_at f f' core a b e e' (all_found is.0.0 core is.0.1) h
+  find_cause f f' (mounts.Damaged devices.Home at found expected) is = absurd is
+  find_cause f f' (mounts.Damaged (devices.Journal core) at found expected) is = inl (by (slice_get old core) refl (rw (slice_get-map (journal_of view) old core) at is.1))
+    where
+      by : (o : Option (AreaView D)) → slice_get old core ≡ o → IsSomeAnd (option_map (journal_of view) o) (λ a. IfSome a.disk.bytes (λ image. IsDamaged a.sizes a.core image a.tail at found expected)) → IsImageCause before (images.Damaged (devices.Journal core) at found expected)
+      by None e h = absurd h
+      by (Some a) e h = damaged_at core at found expected a e (all_found is.0.0 core is.0.1) h
+  find_cause f f' (mounts.NoTree rule block) is = absurd is
+  find_cause f f' (mounts.Unbuilt device) is = absurd is
+  find_cause f f' mounts.NoMemory is = tt
 
-  -- and why nothing was told is why the image is refused, or that it has more cores than one
-  pub read_cause : (f f' : ℕ) (fault : Fault) → IsCountingCause view super old new fault → IsDevicesCause before now f f' fault ⊎ ((image : ImageFault) × (fault ≡ faults.Image image) × IsUntoldSet before image)
-  read_cause f f' fault (inl stops) = inl (subst (λ (x : Fault). IsDevicesCause before now f f' x) (sym stops.2) (scan_cause f f' stops.0 stops.1 stops.3))
-  read_cause f f' fault (inr (inl many)) =
-      inr (images.Unbuilt (devices.Journal 1), many.0, (refl, (super, record { home = has_home; journals = has_journals; hold = λ core below. all_hold many.2.0 (length old) many.2.1 core (omega (arith, in_order.many)) }, many.1)))
-  read_cause f f' fault (inr (inr memory)) = inl (subst (λ (x : Fault). IsDevicesCause before now f f' x) (sym memory) tt)
+  -- and so is why what is kept gives no tree, or that it shows none
+  recover_cause : (f f' : ℕ) (told : MountFault) (found : Journals) (kept : Bounds) → HoldKept super (map (journal_of view) old) found kept → IsRecoverCause super.sizes home home' (kept_records found kept) told → IsDevicesCause before now f f' (fault_of_mounting told)
+  recover_cause f f' (mounts.DiskFault devices.Home) found kept holds rose = inr (rose_put (before home_name) (now home_name) home home' closed.home_back (lent_faults (before home_name) (mid home_name) home out.home_lent) rose)
+  recover_cause f f' (mounts.DiskFault (devices.Journal core)) found kept holds is = absurd is
+  recover_cause f f' (mounts.Damaged device at found' expected) found kept holds is = absurd is
+  recover_cause f f' (mounts.NoTree rule block) found kept holds is =
+      inr (rule, block, refl, record { super = super; found = found; kept = kept; base = is.base; held = is_held found kept is.base holds is.held; fails = is.fails })
+  recover_cause f f' (mounts.Unbuilt device) found kept holds is = absurd is
+  recover_cause f f' mounts.NoMemory found kept holds is = tt
+
+  pub read_cause : (f f' : ℕ) (fault : Fault) → IsReadingCause super home home' (map (journal_of view) old) (map (journal_of view) new) fault → IsDevicesCause before now f f' fault
+  read_cause f f' fault (inl (told, same, inl is)) = subst (λ (x : Fault). IsDevicesCause before now f f' x) (sym same) (find_cause f f' told is)
+  read_cause f f' fault (inl (told, same, inr is)) = subst (λ (x : Fault). IsDevicesCause before now f f' x) (sym same) (recover_cause f f' told is.found is.kept is.holds is.cause)
+  read_cause f f' fault (inr memory) = subst (λ (x : Fault). IsDevicesCause before now f f' x) (sym memory) tt
 
   -- ---- the tree of an image
 
@@ -224,13 +301,13 @@ module _ {D : Type 0} (view : D → DiskView) (before mid now : ShelfView) (home
       at : (o o' : Option (AreaView D)) → slice_get old core ≡ o → slice_get new core ≡ o' → IsSomeAnd o (λ a. IsSomeAnd o' (λ b. FailsAt view a b)) → IsDeviceCause before now f f' (devices.Journal core)
       at None o' e e' h = absurd h
       at (Some a) None e e' h = absurd h
-      at (Some a) (Some b) e e' h = failed_at f f' core a b e e' is.0 h
+      at (Some a) (Some b) e e' h = failed_at f f' core a b e e' (all_hold is.0.0 core is.0.1) h
   used_cause f f' (mounts.Damaged devices.Home at found expected) is = absurd is
   used_cause f f' (mounts.Damaged (devices.Journal core) at found expected) is = inl (by (slice_get old core) refl is.1)
     where
       by : (o : Option (AreaView D)) → slice_get old core ≡ o → IsSomeAnd o (λ a. IsDamagedAt view a at found expected) → IsImageCause before (images.Damaged (devices.Journal core) at found expected)
       by None e h = absurd h
-      by (Some a) e h = damaged_at core at found expected a e is.0 h
+      by (Some a) e h = damaged_at core at found expected a e (all_hold is.0.0 core is.0.1) h
   used_cause f f' (mounts.Unbuilt devices.Home) is = absurd is
   used_cause f f' (mounts.Unbuilt (devices.Journal core)) is = inr (inl (core, super, refl, of_first (slice_get old core) refl is.here))
     where

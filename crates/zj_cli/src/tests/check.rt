@@ -2,7 +2,7 @@
 
 ghost use Rattle.zj_dev.specs.MemShelf.{shelf_names};
 
-use super::words_of;
+use super::{call, words_of};
 use crate::{Fault, ImageFault, Status, zj_tool};
 use std::alloc::{AllocError, Global};
 use std::process::Abort;
@@ -32,11 +32,30 @@ fn home_image(
     }
 }
 
+/// The bytes of the home that `make` makes with these words.
+fn made_home(alloc: Global, words: &[&str]) -> Result<Vec<u8>, Fail> {
+    let mut shelf = MemShelf::new(alloc)?;
+    let _made = call(alloc, &mut shelf, words, b"")?;
+    let disk = shelf.take("home").ok_or("home was made")?;
+    Ok(disk.image(alloc, Torn::Lost)?)
+}
+
+/// The words of a home as that of `home_image`, whose tree has the root alone.
+const SMALL: [&str; 5] = ["make", "64", "8", "1", "50752"];
+
+/// What `check` prints of a tree that has the root alone.
+const ROOT: &str = "nodes 1 blocks 0\n";
+
+/// A journal of so many bytes that begins with these, and zeros behind them.
+fn journal_of(alloc: Global, front: &[u8], len: usize) -> Result<Vec<u8>, AllocError> {
+    let mut bytes = Vec::from_slice(alloc, front)?;
+    bytes.resize(len, 0)?;
+    Ok(bytes)
+}
+
 /// A journal of 50,752 bytes that begins with these, and zeros behind them.
 fn journal(alloc: Global, front: &[u8]) -> Result<Vec<u8>, AllocError> {
-    let mut bytes = Vec::from_slice(alloc, front)?;
-    bytes.resize(50752, 0)?;
-    Ok(bytes)
+    journal_of(alloc, front, 50752)
 }
 
 /// A record of no block, of the only core's transaction 0.
@@ -66,13 +85,13 @@ fn checked<H: Shelf>(alloc: Global, shelf: &mut H) -> Result<(Status, Vec<u8>), 
 #[test]
 fn checks_a_journal(rt: HostRuntime) -> Result<(), Fail> {
     let alloc = rt.alloc();
-    let home = home_image(&rt, alloc, 1, 50752)?;
+    let home = made_home(alloc, &SMALL)?;
     let mut closed = RECORD;
     closed[0] = 7;
     for (front, text) in [
-        ([0; 32], "j0 from 0 found 0 kept 0\n"),
-        (RECORD, "j0 from 0 found 1 kept 1\n"),
-        (closed, "j0 from 0 found 0 kept 0\n"),
+        ([0; 32], "j0 from 0 found 0 kept 0\nnodes 1 blocks 0\n"),
+        (RECORD, "j0 from 0 found 1 kept 1\nnodes 1 blocks 0\n"),
+        (closed, "j0 from 0 found 0 kept 0\nnodes 1 blocks 0\n"),
     ] {
         let journal = journal(alloc, &front)?;
         let mut shelf = shelf_of(alloc, &[("home", &home, &[]), ("j0", &journal, &[])])?;
@@ -140,36 +159,137 @@ fn refuses_what_is_no_image(rt: HostRuntime) -> Result<(), Fail> {
         expected: 0,
     };
     assert_eq!(rt; found, Some(Fault::Image(damaged)));
+    let found = refusal(&rt, alloc, &[("home", &home, &[]), ("j0", &good, &[])])?;
+    let no_tree = ImageFault::NoTree { rule: 1, block: 1 };
+    assert_eq!(rt; found, Some(Fault::Image(no_tree)));
     Ok(())
 }
 
+/// The head of a record of so many blocks, of the only core's transaction 0.
+fn head_of(blocks: u8) -> [u8; 32] {
+    let mut head = RECORD;
+    head[16] = blocks;
+    head
+}
+
+/// Adds a block of a record: its number, its stamp 1, and these bytes with zeros behind them.
+fn add_block(record: &mut Vec<u8>, number: u8, front: &[u8]) -> Result<(), AllocError> {
+    let behind = record.len() + 528;
+    record.extend_from_slice(&[number, 0, 0, 0, 0, 0, 0, 0, 1, 0, 0, 0, 0, 0, 0, 0])?;
+    record.extend_from_slice(front)?;
+    record.resize(behind, 0)
+}
+
+/// A journal whose record makes the tree of the root, `/a` and the file `/f` of three bytes: the map, the nodes, the root's
+/// entries and the file's bytes.
+fn tree_journal(alloc: Global) -> Result<Vec<u8>, AllocError> {
+    let mut record = Vec::from_slice(alloc, &head_of(4))?;
+    let mut map = [1; 512];
+    for free in 4..64 {
+        map[free] = 0;
+    }
+    let mut nodes = [0; 512];
+    for (at, byte) in [
+        (0, 2),
+        (4, 2),
+        (8, 2),
+        (64, 2),
+        (128, 1),
+        (132, 3),
+        (136, 3),
+    ] {
+        nodes[at] = byte;
+    }
+    let mut entries = [0; 64];
+    for (at, byte) in [(0, 1), (4, 1), (6, b'a'), (32, 2), (36, 1), (38, b'f')] {
+        entries[at] = byte;
+    }
+    add_block(&mut record, 0, &map)?;
+    add_block(&mut record, 1, &nodes)?;
+    add_block(&mut record, 2, &entries)?;
+    add_block(&mut record, 3, b"hi ")?;
+    journal(alloc, &record)
+}
+
 #[test]
-fn more_cores_than_one_are_not_checked_yet(rt: HostRuntime) -> Result<(), Fail> {
+fn recovers_a_tree(rt: HostRuntime) -> Result<(), Fail> {
     let alloc = rt.alloc();
-    let home = home_image(&rt, alloc, 2, 50768)?;
-    let journal = vec![in alloc; 0u8; 50768]?;
-    let mut shelf = shelf_of(alloc, &[("home", &home, &[]), ("j0", &journal, &[])])?;
-    let (status, _) = checked(alloc, &mut shelf)?;
-    let device = Device::Journal(1);
-    let absent = Fault::Image(ImageFault::Absent { device });
-    assert_eq!(rt; status.fault().copied(), Some(absent));
-    let _ = shelf.put("j1", MemDisk::new(alloc, &journal, &[], None)?)?;
-    let (status, written) = checked(alloc, &mut shelf)?;
-    let unbuilt = Fault::Image(ImageFault::Unbuilt { device });
-    assert_eq!(rt; status.fault().copied(), Some(unbuilt));
-    assert_eq!(rt; written.len(), 0);
+    let journal = tree_journal(alloc)?;
+    for home in [home_image(&rt, alloc, 1, 50752)?, made_home(alloc, &SMALL)?] {
+        let mut shelf = shelf_of(alloc, &[("home", &home, &[]), ("j0", &journal, &[])])?;
+        let (status, written) = checked(alloc, &mut shelf)?;
+        assert_eq!(rt; status.code(), 0);
+        let text = "j0 from 0 found 1 kept 1\nnodes 3 blocks 2\n";
+        assert_eq!(rt; written.as_slice(), text.as_bytes());
+    }
+    Ok(())
+}
+
+/// A record of no block, of the transaction 0 of one of two cores, which follows so many transactions of the other.
+fn record_of(core: usize, follows: u8) -> [u8; 40] {
+    let mut record = [0; 40];
+    record[0] = 1;
+    record[20] = 2;
+    record[40 - 8 - 8 * core] = follows;
+    record
+}
+
+#[test]
+fn checks_two_cores(rt: HostRuntime) -> Result<(), Fail> {
+    let alloc = rt.alloc();
+    let home = made_home(alloc, &["make", "64", "8", "2", "50768"])?;
+    let empty = [0; 40];
+    let table = [
+        (
+            empty,
+            empty,
+            "j0 from 0 found 0 kept 0\nj1 from 0 found 0 kept 0\n",
+        ),
+        (
+            record_of(0, 0),
+            record_of(1, 1),
+            "j0 from 0 found 1 kept 1\nj1 from 0 found 1 kept 1\n",
+        ),
+        (
+            empty,
+            record_of(1, 1),
+            "j0 from 0 found 0 kept 0\nj1 from 0 found 1 kept 0\n",
+        ),
+        (
+            record_of(0, 2),
+            record_of(1, 0),
+            "j0 from 0 found 1 kept 0\nj1 from 0 found 1 kept 1\n",
+        ),
+    ];
+    for (first, second, text) in table {
+        let first = journal_of(alloc, &first, 50768)?;
+        let second = journal_of(alloc, &second, 50768)?;
+        let mut shelf = shelf_of(alloc, &[("home", &home, &[]), ("j0", &first, &[])])?;
+        let (status, _) = checked(alloc, &mut shelf)?;
+        let device = Device::Journal(1);
+        let absent = Fault::Image(ImageFault::Absent { device });
+        assert_eq!(rt; status.fault().copied(), Some(absent));
+        let _ = shelf.put("j1", MemDisk::new(alloc, &second, &[], None)?)?;
+        let (status, written) = checked(alloc, &mut shelf)?;
+        assert_eq!(rt; status.code(), 0);
+        let (lines, root) = written
+            .split_at_checked(text.len())
+            .ok_or("a line for each core")?;
+        assert_eq!(rt; lines, text.as_bytes());
+        assert_eq!(rt; root, ROOT.as_bytes());
+    }
     Ok(())
 }
 
 #[test]
 fn tells_the_device_that_failed(rt: HostRuntime) -> Result<(), Fail> {
     let alloc = rt.alloc();
-    let home = home_image(&rt, alloc, 1, 50752)?;
+    let home = made_home(alloc, &SMALL)?;
     let journal = journal(alloc, &RECORD)?;
     let j0 = Device::Journal(0);
     let table: [(&[u64], &[u64], Option<Device>); 5] = [
         (&[0], &[], Some(Device::Home)),
-        (&[1], &[], None),
+        (&[1], &[], Some(Device::Home)),
         (&[], &[0], Some(j0)),
         (&[], &[1], Some(j0)),
         (&[], &[2], None),
@@ -190,7 +310,7 @@ fn tells_the_device_that_failed(rt: HostRuntime) -> Result<(), Fail> {
 #[test]
 fn tells_a_fault_of_the_output_of_check(rt: HostRuntime) -> Result<(), Fail> {
     let alloc = rt.alloc();
-    let home = home_image(&rt, alloc, 1, 50752)?;
+    let home = made_home(alloc, &SMALL)?;
     let journal = journal(alloc, &RECORD)?;
     let mut shelf = shelf_of(alloc, &[("home", &home, &[]), ("j0", &journal, &[])])?;
     let words = words_of(alloc, &["check"])?;
@@ -279,7 +399,7 @@ fn closed(
 #[test]
 fn tells_a_fault_of_closing(rt: HostRuntime) -> Result<(), Fail> {
     let alloc = rt.alloc();
-    let home = home_image(&rt, alloc, 1, 50752)?;
+    let home = made_home(alloc, &SMALL)?;
     let journal = journal(alloc, &RECORD)?;
     for (stuck, device) in [("home", Device::Home), ("j0", Device::Journal(0))] {
         let devices = [
@@ -288,7 +408,10 @@ fn tells_a_fault_of_closing(rt: HostRuntime) -> Result<(), Fail> {
         ];
         let (fault, written, order) = closed(alloc, &devices, stuck)?;
         assert_eq!(rt; fault, Some(Fault::Device { device }));
-        assert_eq!(rt; written.as_slice(), "j0 from 0 found 1 kept 1\n".as_bytes());
+        assert_eq!(rt;
+            written.as_slice(),
+            "j0 from 0 found 1 kept 1\nnodes 1 blocks 0\n".as_bytes()
+        );
         assert_eq!(rt; order, 0x6530, "home first, then j0");
     }
     Ok(())

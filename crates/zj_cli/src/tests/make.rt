@@ -45,7 +45,7 @@ fn makes_an_image(rt: HostRuntime) -> Result<(), Fail> {
     assert_eq!(rt; journal.len(), 50_752);
     for (command, input, text) in [
         ("play", "", ""),
-        ("check", "", "j0 from 0 found 0 kept 0\n"),
+        ("check", "", "j0 from 0 found 0 kept 0\nnodes 1 blocks 0\n"),
         (
             "play",
             "0 mkdir /a\n0 list /\n",

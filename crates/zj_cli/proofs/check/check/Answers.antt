@@ -1,10 +1,9 @@
 use Rattle.std.proofs.Common.{◌∙◌, refl, sym, ap, subst}
 use Rattle.std.specs.Result.{result_err}
-use Rattle.zj_dev.proofs.DiskLaws.{reads_refl}
-use Rattle.zj_cli.specs.Check.{CheckEnds}
+use Rattle.zj_cli.specs.Check.{CheckEnds, check_text}
 use Rattle.zj_cli.specs.Outside.{Outside}
-use Rattle.zj_cli.proofs.CheckLemmas.{checks, close_cause, out_read, read_cause}
-use Rattle.zj_cli.proofs.Ends.{ends, fails_to_print, if_err, on_ok, tells, told_failed, told_quiet}
+use Rattle.zj_cli.proofs.CheckLemmas.{close_cause, out_read, read_cause, tells}
+use Rattle.zj_cli.proofs.Ends.{ends, fails_to_print, if_err, on_ok, prints, told_failed, told_quiet}
 use Rattle.zj_cli.proofs.check.check.Goals as goal
 
 pub returns-clause-runs : goal.returns-clause-runs
@@ -13,21 +12,23 @@ returns-clause-runs g c left input_faults =
     let before = g.H.Shelf.names c.args.shelf.now in
     let mid = g.H.Shelf.names c.open_all.new.shelf in
     let now = g.H.Shelf.names c.close_all.new.shelf in
-    let opened = c.in_ok-set.ensures in
-    let home = view c.in_ok-set.set.home.device in
-    let super = c.in_ok-set.set.home.told in
-    let old = c.in_ok-set.set.areas.areas in
+    let opened = c.in_ok-home.ensures in
+    let home = view c.in_ok-home.field-0.home.device in
+    let home' = view c.print_set-printed.new.home.device in
+    let super = c.in_ok-home.field-0.home.told in
+    let old = c.in_ok-home.field-0.areas.areas in
     let new = c.print_set-printed.new.areas.areas in
-    let closed = c.close_all.ensures.closed before (out_read view before mid home home old new opened.out (reads_refl home) c.print_set-printed.ensures.read) in
+    let out = out_read view before mid home home' old new opened.out c.print_set-printed.ensures.home_read c.print_set-printed.ensures.read in
+    let closed = c.close_all.ensures.closed before out in
     let outside : Outside = record { left = left; held = g.K.Sink.held c.args.out.now; names = before; input_faults = input_faults; output_faults = g.K.Sink.faults c.args.out.now; shelf_faults = g.H.Shelf.faults c.args.shelf.now } in
     let after : Outside = record { left = left; held = g.K.Sink.held c.print_set-printed.new.out; names = now; input_faults = input_faults; output_faults = g.K.Sink.faults c.print_set-printed.new.out; shelf_faults = g.H.Shelf.faults c.close_all.new.shelf } in
-    let known = checks view before mid now home home old new super opened.out closed opened.in_order opened.home opened.journals in
+    let known = tells view before mid now home home' old new super opened.out closed opened.in_order opened.home opened.journals check_text in
     record {
-      back = c.close_all.ensures.back before (out_read view before mid home home old new opened.out (reads_refl home) c.print_set-printed.ensures.read);
-      ends = subst (λ fault. CheckEnds outside after fault) (sym (ap (λ r. result_err r) c.and.ensures)) (ends outside after c.print_set-printed.result c.map_err-closed.result refl
-          (tells outside after _ c.print_set-printed.result known c.print_set-printed.ensures.printed c.print_set-printed.ensures.quiet)
-          (if_err c.print_set-printed.result (fails_to_print outside after known (read_cause view before mid now home home old new super opened.out closed opened.in_order opened.home opened.journals _ _) (λ same. ap (λ out. g.K.Sink.held out) same)) c.print_set-printed.ensures.cause)
+      back = c.close_all.ensures.back before out;
+      ends = subst (λ fault. CheckEnds outside after fault) (sym (ap (λ r. result_err r) c.and.ensures)) (ends check_text outside after c.print_set-printed.result c.map_err-closed.result refl
+          (prints check_text outside after _ c.print_set-printed.result known c.print_set-printed.ensures.printed c.print_set-printed.ensures.quiet)
+          (if_err c.print_set-printed.result (fails_to_print check_text outside after known (read_cause view before mid now home home' old new super opened.out closed opened.in_order opened.home opened.journals _ _) (λ same. ap (λ out. g.K.Sink.held out) same)) c.print_set-printed.ensures.cause)
           (told_quiet _ c.close_all.result c.map_err-closed.result c.map_err-closed.ensures.cases (on_ok c.close_all.result (λ quiet. quiet ∙ opened.quiet) c.close_all.ensures.quiet))
           (told_failed outside after c.close_all.result c.map_err-closed.result c.map_err-closed.ensures.cases
-          (if_err c.close_all.result (λ fault. close_cause view before mid now home home old new super opened.out closed opened.in_order opened.home opened.journals _ (g.H.Shelf.faults c.args.shelf.now) (g.H.Shelf.faults c.open_all.new.shelf) (g.H.Shelf.faults c.close_all.new.shelf) fault.device (c.print_set-printed.ensures.count ∙ opened.in_order.many) c.open_all.ensures.no_fewer) c.close_all.ensures.cause)));
+          (if_err c.close_all.result (λ fault. close_cause view before mid now home home' old new super opened.out closed opened.in_order opened.home opened.journals _ (g.H.Shelf.faults c.args.shelf.now) (g.H.Shelf.faults c.open_all.new.shelf) (g.H.Shelf.faults c.close_all.new.shelf) fault.device (c.print_set-printed.ensures.count ∙ opened.in_order.many) c.open_all.ensures.no_fewer) c.close_all.ensures.cause)));
     }
