@@ -3,7 +3,7 @@
 
     examples/image.py FOLDER [RECORDS]
 
-writes a home of one core with 64 blocks and 8 nodes into the folder, and its journal j0 with so many transactions
+writes a new home of one core with 64 blocks and 8 nodes into the folder, and its journal j0 with so many transactions
 that write no block (1 where the number is left out). `zj check` reads it there.
 """
 import os
@@ -21,16 +21,16 @@ def home(cores=1, area=AREA, blocks=BLOCKS, nodes=NODES, epoch=1):
     return slot.ljust(8192 + 512 * blocks, b"\0")
 
 
-def new_home():
+def new_home(cores=1, area=AREA, epoch=1):
     """The home of a new image: the map, of which the blocks of map and nodes are in use, and node 0, a directory."""
     used = 1 + NODES // 8
     in_use = bytes(block < used or block >= BLOCKS for block in range(512))
-    return home()[:8192] + (in_use + b"\x02").ljust(512 * BLOCKS, b"\0")
+    return home(cores, area, epoch=epoch)[:8192] + (in_use + b"\x02").ljust(512 * BLOCKS, b"\0")
 
 
-def record(number=0, gate=1, blocks=()):
-    """A record of the only core: the number of its transaction, and (block, stamp, content) of each block."""
-    head = struct.pack("<QQIIQ", gate, number, len(blocks), 1, 0)
+def record(number=0, gate=1, blocks=(), bounds=(0,)):
+    """A record: the number of its transaction, (block, stamp, content) of each block, and the bound on each core."""
+    head = struct.pack(f"<QQII{len(bounds)}Q", gate, number, len(blocks), len(bounds), *bounds)
     return head + b"".join(struct.pack("<IIQ", block, 0, stamp) + content for block, stamp, content in blocks)
 
 
@@ -53,7 +53,7 @@ def write(folder, files):
 def main(folder, count="1"):
     os.makedirs(folder, exist_ok=True)
     records = b"".join(record(number) for number in range(int(count)))
-    write(folder, {"home": home(), "j0": journal(records)})
+    write(folder, {"home": new_home(), "j0": journal(records)})
 
 
 if __name__ == "__main__":

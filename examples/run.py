@@ -9,6 +9,7 @@ swapped and absent; the answer, the status and the files are compared.
 """
 import glob
 import os
+import struct
 import subprocess
 import sys
 import tempfile
@@ -22,8 +23,13 @@ TWO_CORES = ("make", "64", "8", "2", "50768")
 PLAYED_ON = {"handles.script": TWO_CORES}
 
 
-def found(count):
-    return 0, f"j0 from 0 found {count} kept {count}\n", ""
+ROOT = "nodes 1 blocks 0\n"
+
+
+def found(*counts, kept=None, tree=ROOT):
+    """What `check` answers of journals that hold so many transactions, of which so many are kept, all where none are told."""
+    pairs = zip(counts, kept or counts)
+    return 0, "".join(f"j{core} from 0 found {count} kept {keeps}\n" for core, (count, keeps) in enumerate(pairs)) + tree, ""
 
 
 def refused(text):
@@ -32,10 +38,34 @@ def refused(text):
 
 GOOD = journal(record())
 NEW = {"home": new_home(), "j0": journal()}
+
+
+def of_two(first, second):
+    """A new image of two cores whose journals begin with these records."""
+    return {"home": new_home(2, 50768), "j0": journal(first, 50768), "j1": journal(second, 50768)}
+
+
+def node(kind, size, block):
+    return struct.pack("<III", kind, size, block).ljust(64, b"\0")
+
+
+def entry(leads_to, name):
+    return struct.pack("<IBB", leads_to, len(name), 0) + name.ljust(26, b"\0")
+
+
+# A record whose blocks show the root, the directory /a and the file /f of three bytes.
+TREE = journal(record(blocks=[
+    (0, 1, bytes(block < 4 or block >= 64 for block in range(512))),
+    (1, 1, (node(2, 2, 2) + node(2, 0, 0) + node(1, 3, 3)).ljust(512, b"\0")),
+    (2, 1, (entry(1, b"a") + entry(2, b"f")).ljust(512, b"\0")),
+    (3, 1, b"hi ".ljust(512, b"\0")),
+]))
 CHECKED = [
-    ("an empty journal", {"home": home(), "j0": journal()}, found(0)),
-    ("one transaction", {"home": home(), "j0": GOOD}, found(1)),
-    ("a gate that isn't open", {"home": home(), "j0": with_byte(GOOD, 0, 7)}, found(0)),
+    ("an empty journal", NEW, found(0)),
+    ("one transaction", {"home": new_home(), "j0": GOOD}, found(1)),
+    ("one transaction over blocks of zeros", {"home": home(), "j0": GOOD}, refused("notree rule 1 block 1")),
+    ("a transaction that makes a tree", {"home": home(), "j0": TREE}, found(1, tree="nodes 3 blocks 2\n")),
+    ("a gate that isn't open", {"home": new_home(), "j0": with_byte(GOOD, 0, 7)}, found(0)),
     ("another number", {"home": home(), "j0": with_byte(GOOD, 8, 5)},
      refused("damaged j0 at 8 found 5 expected 0")),
     ("a ring full of records", {"home": home(), "j0": journal(b"".join(map(record, range(794))))},
@@ -48,15 +78,16 @@ CHECKED = [
     ("a home of 8,191 bytes", {"home": home()[:8191], "j0": GOOD}, refused("notanimage at 0")),
     ("a closed home", {"home": with_byte(home(), 0, 0), "j0": GOOD}, refused("notanimage at 0")),
     ("other letters", {"home": with_byte(home(), 1, 0), "j0": GOOD}, refused("notanimage at 1")),
-    ("the last epoch", {"home": home(epoch=2**62 - 1), "j0": GOOD}, found(1)),
+    ("the last epoch", {"home": new_home(epoch=2**62 - 1), "j0": GOOD}, found(1)),
     ("an epoch past the last", {"home": home(epoch=2**62), "j0": GOOD}, refused("notanimage at 8")),
     ("another version", {"home": with_byte(home(), 16, 9), "j0": GOOD}, refused("version found 9")),
     ("no core", {"home": with_byte(home(), 20, 0), "j0": GOOD}, refused("notanimage at 20")),
     ("swapped files", {"home": GOOD, "j0": home()}, refused("notanimage at 1")),
     ("two cores without their journals", {"home": home(2, 50768), "j0": journal(area=50768)},
      refused("absent j1")),
-    ("two cores", {"home": home(2, 50768), "j0": journal(area=50768), "j1": journal(area=50768)},
-     refused("unbuilt j1")),
+    ("two cores", of_two(b"", b""), found(0, 0)),
+    ("two cores, one of which follows the other", of_two(record(bounds=(0, 0)), record(bounds=(1, 0))), found(1, 1)),
+    ("two cores, one of which follows what isn't there", of_two(b"", record(bounds=(1, 0))), found(0, 1, kept=(0, 0))),
 ]
 
 PLAYED = [

@@ -8,7 +8,7 @@ Usage:
   zj make [BLOCKS NODES CORES AREA]
                   makes an image in the current folder
   zj play         runs the script on standard input on that image, and prints the answers
-  zj check        prints what the journals of that image hold
+  zj check        prints what the journals of that image hold, and what is recovered
   zj --help       prints this text
   zj --version    prints the version
 
@@ -88,9 +88,11 @@ prints
 check
 It reads the image and changes nothing. It prints one line for each journal: where
 its tail begins, how many transactions it holds and how many of them a recovery
-would keep, as
+keeps; and one for the tree that is recovered: how many files and directories it
+has, the root among them, and how many blocks these take up, as
   j0 from 0 found 1 kept 1
-An image of more cores than one is refused as not built yet, with status 3.
+  nodes 1 blocks 0
+Where what is recovered is no tree, it ends with status 3: image notree, and why.
 
 Status: 0 done; and with a text on standard error: 1 the words are no command,
 2 the input is refused, 3 a device of the image is absent, exists already, holds

@@ -165,49 +165,53 @@ fn refuses_what_is_no_image(rt: HostRuntime) -> Result<(), Fail> {
     Ok(())
 }
 
-/// The head of a record of so many blocks, of the only core's transaction 0.
-fn head_of(blocks: u8) -> [u8; 32] {
-    let mut head = RECORD;
-    head[16] = blocks;
-    head
-}
+/// The head of a record of four blocks, of the only core's transaction 0.
+const HEAD: [u8; 32] = [
+    1, 0, 0, 0, 0, 0, 0, 0, 0, 0, 0, 0, 0, 0, 0, 0, 4, 0, 0, 0, 1, 0, 0, 0, 0, 0, 0, 0, 0, 0, 0, 0,
+];
 
-/// Adds a block of a record: its number, its stamp 1, and these bytes with zeros behind them.
-fn add_block(record: &mut Vec<u8>, number: u8, front: &[u8]) -> Result<(), AllocError> {
-    let behind = record.len() + 528;
-    record.extend_from_slice(&[number, 0, 0, 0, 0, 0, 0, 0, 1, 0, 0, 0, 0, 0, 0, 0])?;
-    record.extend_from_slice(front)?;
-    record.resize(behind, 0)
-}
+/// What stands behind it, in pieces: bytes, and up to where another byte stands behind them. The blocks are the map, the
+/// nodes (the root, `/a` and `/f`), the root's entries and the bytes of `/f`, each behind its number and the stamp 1.
+const BLOCKS: [(&[u8], usize, u8); 8] = [
+    (
+        &[0, 0, 0, 0, 0, 0, 0, 0, 1, 0, 0, 0, 0, 0, 0, 0, 1, 1, 1, 1],
+        112,
+        0,
+    ),
+    (&[], 560, 1),
+    (
+        &[
+            1, 0, 0, 0, 0, 0, 0, 0, 1, 0, 0, 0, 0, 0, 0, 0, 2, 0, 0, 0, 2, 0, 0, 0, 2,
+        ],
+        640,
+        0,
+    ),
+    (&[2], 704, 0),
+    (&[1, 0, 0, 0, 3, 0, 0, 0, 3], 1088, 0),
+    (
+        &[
+            2, 0, 0, 0, 0, 0, 0, 0, 1, 0, 0, 0, 0, 0, 0, 0, 1, 0, 0, 0, 1, 0, b'a',
+        ],
+        1136,
+        0,
+    ),
+    (&[2, 0, 0, 0, 1, 0, b'f'], 1616, 0),
+    (
+        &[
+            3, 0, 0, 0, 0, 0, 0, 0, 1, 0, 0, 0, 0, 0, 0, 0, b'h', b'i', b' ',
+        ],
+        2144,
+        0,
+    ),
+];
 
-/// A journal whose record makes the tree of the root, `/a` and the file `/f` of three bytes: the map, the nodes, the root's
-/// entries and the file's bytes.
+/// A journal whose record makes the tree of the root, `/a` and the file `/f` of three bytes.
 fn tree_journal(alloc: Global) -> Result<Vec<u8>, AllocError> {
-    let mut record = Vec::from_slice(alloc, &head_of(4))?;
-    let mut map = [1; 512];
-    for free in 4..64 {
-        map[free] = 0;
+    let mut record = Vec::from_slice(alloc, &HEAD)?;
+    for (bytes, end, byte) in BLOCKS {
+        record.extend_from_slice(bytes)?;
+        record.resize(end, byte)?;
     }
-    let mut nodes = [0; 512];
-    for (at, byte) in [
-        (0, 2),
-        (4, 2),
-        (8, 2),
-        (64, 2),
-        (128, 1),
-        (132, 3),
-        (136, 3),
-    ] {
-        nodes[at] = byte;
-    }
-    let mut entries = [0; 64];
-    for (at, byte) in [(0, 1), (4, 1), (6, b'a'), (32, 2), (36, 1), (38, b'f')] {
-        entries[at] = byte;
-    }
-    add_block(&mut record, 0, &map)?;
-    add_block(&mut record, 1, &nodes)?;
-    add_block(&mut record, 2, &entries)?;
-    add_block(&mut record, 3, b"hi ")?;
     journal(alloc, &record)
 }
 
@@ -225,13 +229,12 @@ fn recovers_a_tree(rt: HostRuntime) -> Result<(), Fail> {
     Ok(())
 }
 
-/// A record of no block, of the transaction 0 of one of two cores, which follows so many transactions of the other.
-fn record_of(core: usize, follows: u8) -> [u8; 40] {
-    let mut record = [0; 40];
-    record[0] = 1;
-    record[20] = 2;
-    record[40 - 8 - 8 * core] = follows;
-    record
+/// A record of no block, of the transaction 0 of one of two cores, which follows so many transactions of each.
+fn record_of(first: u8, second: u8) -> [u8; 40] {
+    [
+        1, 0, 0, 0, 0, 0, 0, 0, 0, 0, 0, 0, 0, 0, 0, 0, 0, 0, 0, 0, 2, 0, 0, 0, first, 0, 0, 0, 0,
+        0, 0, 0, second, 0, 0, 0, 0, 0, 0, 0,
+    ]
 }
 
 #[test]
@@ -247,17 +250,17 @@ fn checks_two_cores(rt: HostRuntime) -> Result<(), Fail> {
         ),
         (
             record_of(0, 0),
-            record_of(1, 1),
+            record_of(1, 0),
             "j0 from 0 found 1 kept 1\nj1 from 0 found 1 kept 1\n",
         ),
         (
             empty,
-            record_of(1, 1),
+            record_of(1, 0),
             "j0 from 0 found 0 kept 0\nj1 from 0 found 1 kept 0\n",
         ),
         (
             record_of(0, 2),
-            record_of(1, 0),
+            record_of(0, 0),
             "j0 from 0 found 1 kept 0\nj1 from 0 found 1 kept 1\n",
         ),
     ];
