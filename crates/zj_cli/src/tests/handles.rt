@@ -1,16 +1,16 @@
 //! `play` on two cores: handles step by step that meet each other's blocks.
 
 use super::call;
+use crate::Status;
 use std::alloc::{AllocError, Global};
 use std::test::Fail;
 use zj_dev::MemShelf;
 
-/// What `play` wrote over an image of two cores that was just made, where it ended with 0.
-fn played(alloc: Global, input: &str) -> Result<Option<Vec<u8>>, AllocError> {
+/// The status of `play` over an image of two cores that was just made, and what it wrote.
+fn played(alloc: Global, input: &str) -> Result<(Status, Vec<u8>), AllocError> {
     let mut shelf = MemShelf::new(alloc)?;
     call(alloc, &mut shelf, &["make", "64", "16", "2", "131072"], b"")?;
-    let (status, written) = call(alloc, &mut shelf, &["play"], input.as_bytes())?;
-    Ok((status.code() == 0).then_some(written))
+    call(alloc, &mut shelf, &["play"], input.as_bytes())
 }
 
 #[test]
@@ -78,8 +78,9 @@ fn handles_take_turns(rt: HostRuntime) -> Result<(), Fail> {
         ("0 begin mkdir /a\n0 take\n", "1 0 begun\n2 0 took 1\n"),
     ];
     for (input, want) in table {
-        let written = played(rt.alloc(), input)?;
-        assert_eq!(rt; written.as_deref(), Some(want.as_bytes()), "at {input}");
+        let (status, written) = played(rt.alloc(), input)?;
+        assert_eq!(rt; status.code(), 0, "at {input}");
+        assert_eq!(rt; written.as_slice(), want.as_bytes(), "at {input}");
     }
     Ok(())
 }
