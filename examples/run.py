@@ -100,6 +100,12 @@ PLAYED = [
      refused("notree rule 6 block 0")),
 ]
 
+DUMPED = [
+    ("a new image", NEW, (0, "/ dir 0\n", "")),
+    ("a transaction that makes a tree", {"home": home(), "j0": TREE}, (0, "/ dir 2\n/a dir 0\n/f file 3 hi%20\n", "")),
+    ("one transaction over blocks of zeros", {"home": home(), "j0": GOOD}, refused("notree rule 1 block 1")),
+]
+
 # Where a script is refused: its line and a mark, and what was due.
 REFUSED = [
     (b"0 list /\n0 mkdir a\n", "line 2 column 9 kind 3\n0 mkdir a\n        ^\ndue: a path, as / or /a/b, of at most 16 names, each of at most 26 letters, digits, and . _ -\n"),
@@ -206,11 +212,11 @@ def main(program):
     program = os.path.realpath(program)
     scripts = sorted(glob.glob(os.path.join(HERE, "*.script")))
     failed = make(program) + sum(play(program, script) for script in scripts)
-    for command, images in (("check", CHECKED), ("play", PLAYED)):
+    for command, images in (("check", CHECKED), ("dump", DUMPED), ("play", PLAYED)):
         failed += sum(read(program, command, *image) for image in images)
     failed += sum(refuse(program, *script) for script in REFUSED)
     failed += sum(refuse_sizes(program, *sizes) for sizes in WRONG_SIZES)
-    failed += sum(close_output(program, command) for command in ("play", "check"))
+    failed += sum(close_output(program, command) for command in ("play", "check", "dump"))
     with tempfile.TemporaryDirectory() as folder:
         os.symlink("home", os.path.join(folder, "home"))
         failed += compare("a home that can't be opened", run(program, folder, "check"), (4, "", "zj: device home\n"))

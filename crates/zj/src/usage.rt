@@ -9,6 +9,7 @@ Usage:
                   makes an image in the current folder
   zj play         runs the script on standard input on that image, and prints the answers
   zj check        prints what the journals of that image hold, and what is recovered
+  zj dump         prints the tree that is recovered of that image
   zj --help       prints this text
   zj --version    prints the version
 
@@ -93,6 +94,13 @@ has, the root among them, and how many blocks these take up, as
   j0 from 0 found 1 kept 1
   nodes 1 blocks 0
 Where what is recovered is no tree, it ends with status 3: image notree, and why.
+
+dump
+It reads the image as check does. It prints one line for each file and directory that
+is recovered: the path, and dir and how many entries it has, or file, how many bytes
+it has, and these as a TEXT, as
+  / dir 1
+  /f file 2 hi
 
 Status: 0 done; and with a text on standard error: 1 the words are no command,
 2 the input is refused, 3 a device of the image is absent, exists already, holds

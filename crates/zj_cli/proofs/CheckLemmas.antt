@@ -41,7 +41,9 @@ use Rattle.zj_mount.proofs.SetLemmas.{rose_put}
 use Rattle.zj_cli.specs.declared.status.Fault.{Fault}
 use Rattle.zj_cli.specs.declared.status.Fault.TheVariants as faults
 use Rattle.zj_cli.specs.declared.status.ImageFault.TheVariants as images
-use Rattle.zj_cli.specs.Check.{AllHold, IsDeviceCause, IsDevicesCause, IsHeld, IsImageCause, IsReadingCause, IsReadTo, IsTold, JournalHolds, OfJournal, Spelling, Tells, check_text, journal_text, restored_text, size_text, tally_text}
+use Rattle.zj_cli.specs.declared.check.Telling.{Telling}
+use Rattle.zj_cli.specs.declared.check.Telling.TheVariants as tellings
+use Rattle.zj_cli.specs.Check.{AllHold, IsDeviceCause, IsDevicesCause, IsHeld, IsImageCause, IsReadingCause, IsReadTo, IsTold, JournalHolds, OfJournal, Spelling, Tells, check_text, journal_text, restored_text, size_text, tally_text, dump_text, spelling_of, telling_text, tree_text}
 use Rattle.zj_cli.specs.Faults.{fault_of_mounting, fault_of_opening}
 use Rattle.zj_cli.specs.Mount.{HoldNothing, IsAtRest, IsFirstUsed, Mounts}
 use Rattle.zj_cli.proofs.PlayLemmas.{IsTreesCause}
@@ -116,6 +118,22 @@ told_check super home journals r text is same = record {
 
     by : ℕ → Option Tally → List ℕ
     by core o = journal_text core (unwrap_or (option_map (λ (t : Tally). t.from) o) 0) (unwrap_or (option_map (λ (t : Tally). t.found) o) 0) (unwrap_or (option_map (λ (t : Tally). t.kept) o) 0)
+
+told_dump : (super : Super) (home : DiskView) (journals : List JournalView) (r : Restored) (text : List ℕ) → Inspects super home journals r → text ≡ tree_text r.tree.tree → IsTold dump_text super home journals text
+told_dump super home journals r text is same = record {
+  found = is.found;
+  kept = is.kept;
+  base = is.base;
+  tree = r.tree.tree;
+  holds = is.holds;
+  held = is.held;
+  shows = subst (λ (blocks : State). Shows super.sizes blocks r.tree.tree) is.blocks is.shows;
+  text_is = same;
+}
+
+pub told : (telling : Telling) (super : Super) (home : DiskView) (journals : List JournalView) (r : Restored) (text : List ℕ) → Inspects super home journals r → text ≡ telling_text telling r → IsTold (spelling_of telling) super home journals text
+told tellings.Check super home journals r text is same = told_check super home journals r text is same
+told tellings.Dump super home journals r text is same = told_dump super home journals r text is same
 
 -- ---- what was read, of what stands on the shelf
 

@@ -1,5 +1,6 @@
 pub mod AskedLemmas
 pub mod SpellLemmas
+pub mod DumpLemmas
 pub mod PlayableLemmas
 pub mod ReadyLemmas
 pub mod StreamLemmas

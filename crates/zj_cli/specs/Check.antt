@@ -19,7 +19,10 @@ use Rattle.zj_area.specs.Ring.{Holds, IsDamaged}
 use Rattle.zj_closure.specs.Found.{Journals, records_of, tail_of}
 use Rattle.zj_closure.specs.Kept.{AreKept}
 use Rattle.zj_closure.specs.Recovered.{kept_records, recovered}
-use Rattle.zj_tree.specs.Tree.{FileTree, node_count, used}
+use Rattle.std.specs.FinMap as map_of
+use Rattle.zj_tree.specs.declared.content.Content.{Content}
+use Rattle.zj_tree.specs.Tree.{FileTree, entry_count, node_count, used}
+use Rattle.zj_script.specs.Entries.{entry_text}
 use Rattle.zj_layout.specs.Image.{State, image_of}
 use Rattle.zj_layout.specs.Rules.{FailsFirst}
 use Rattle.zj_layout.specs.Shows.{Shows}
@@ -31,6 +34,8 @@ use Rattle.zj_mount.specs.Inspecting.{HoldKept, HomeHolds, IsInspectCause}
 use Rattle.zj_mount.specs.Opening.{IsReached, IsRefusal}
 use Rattle.zj_mount.specs.Recovered.{Restored}
 use Rattle.zj_mount.specs.Set.{AllBack, home_name, journal_name}
+use Rattle.zj_cli.specs.declared.check.Telling.{Telling}
+use Rattle.zj_cli.specs.declared.check.Telling.TheVariants as tellings
 use Rattle.zj_cli.specs.declared.status.ImageFault.{ImageFault}
 use Rattle.zj_cli.specs.declared.status.ImageFault.TheVariants as images
 use Rattle.zj_cli.specs.declared.status.Fault.{Fault}
@@ -131,6 +136,19 @@ abbrev pub check_text : Spelling
 check_text super found kept tree =
     flat_map (λ core. journal_text core (tail_of super.tails core) (length (records_of found core)) (kept core - tail_of super.tails core)) (range_with_len 0 super.sizes.cores) ++ size_text tree
 
+-- the line of an entry of the tree, with the count of entries where it is a directory
+abbrev pub line_of : FileTree → List (List ℕ) × Content → List ℕ
+line_of tree (path, content) = entry_text path content (entry_count tree path)
+
+-- what `dump` prints: the line of each entry, in the order of the paths
+abbrev pub dump_text : Spelling
+dump_text super found kept tree = flat_map (line_of tree) (map_of.entries tree)
+
+-- what such a command prints
+abbrev pub spelling_of : Telling → Spelling
+spelling_of tellings.Check = check_text
+spelling_of tellings.Dump = dump_text
+
 -- The text is that of what is recovered of an image.
 pub record Tells (spelling : Spelling) (names : ShelfView) (text : List ℕ) : Type 0 where
   pub super : Super
@@ -143,6 +161,10 @@ pub record Tells (spelling : Spelling) (names : ShelfView) (text : List ℕ) : T
 -- what `check` prints of an image
 abbrev pub Checks : ShelfView → List ℕ → Type 0
 Checks = Tells check_text
+
+-- and what `dump` prints of it
+abbrev pub Dumps : ShelfView → List ℕ → Type 0
+Dumps = Tells dump_text
 
 -- The text of the image was written but for the rest.
 pub record Prints (spelling : Spelling) (before after : Outside) (rest : List ℕ) : Type 0 where
@@ -172,6 +194,14 @@ CheckEnds = TellingEnds check_text
 abbrev pub RunsCheck : Outside → Outside → Option Fault → Type 0
 RunsCheck = RunsTelling check_text
 
+-- how `dump` ends
+abbrev pub DumpEnds : Outside → Outside → Option Fault → Type 0
+DumpEnds = TellingEnds dump_text
+
+-- and what it does
+abbrev pub RunsDump : Outside → Outside → Option Fault → Type 0
+RunsDump = RunsTelling dump_text
+
 -- ---- of devices that are out of their shelf
 
 -- What is recovered of an image that was opened, as a text.
@@ -200,3 +230,12 @@ tally_text tallies core = journal_text core (told_of (λ t. t.from) tallies core
 -- what `check` prints, by what an inspection gave
 abbrev pub restored_text : Restored → List ℕ
 restored_text restored = flat_map (tally_text restored.journals) (range_with_len 0 restored.sizes.cores) ++ size_text restored.tree.tree
+
+-- what `dump` prints, by the tree
+abbrev pub tree_text : FileTree → List ℕ
+tree_text tree = flat_map (line_of tree) (map_of.entries tree)
+
+-- what such a command prints, by what an inspection gave
+abbrev pub telling_text : Telling → Restored → List ℕ
+telling_text tellings.Check restored = restored_text restored
+telling_text tellings.Dump restored = tree_text restored.tree.tree

@@ -32,11 +32,13 @@ pub data Command : Type 0 where
   Make : Numbers → Command
   Play : Command
   Check : Command
+  Dump : Command
 
 -- a command that reads an image
 abbrev pub command_of : Reading → Command
 command_of readings.Play = Play
 command_of readings.Check = Check
+command_of readings.Dump = Dump
 
 -- the sizes of an image that `make` alone makes
 abbrev pub usual_sizes : Numbers
@@ -50,6 +52,7 @@ size_words sizes = decimal sizes.blocks ∷ decimal sizes.nodes ∷ decimal size
 abbrev pub Asks : List (List ℕ) → Command → Type 0
 Asks words Play = words ≡ codes "play" ∷ []
 Asks words Check = words ≡ codes "check" ∷ []
+Asks words Dump = words ≡ codes "dump" ∷ []
 Asks words (Make sizes) = IsInLimits sizes × ((words ≡ codes "make" ∷ size_words sizes) ⊎ ((words ≡ codes "make" ∷ []) × (sizes ≡ usual_sizes)))
 
 -- The fault comes before the command writes to the output.
@@ -60,4 +63,6 @@ IsBeforeWriting Play faults.Input = ⊤
 IsBeforeWriting Play (faults.Image fault) = ⊤
 IsBeforeWriting Check (faults.Image fault) = ⊤
 IsBeforeWriting Check faults.Memory = ⊤
+IsBeforeWriting Dump (faults.Image fault) = ⊤
+IsBeforeWriting Dump faults.Memory = ⊤
 IsBeforeWriting command fault = ⊥

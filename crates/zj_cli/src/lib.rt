@@ -4,6 +4,7 @@
 
 mod asked;
 mod check;
+mod dump;
 mod make;
 mod play;
 mod status;

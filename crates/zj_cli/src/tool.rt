@@ -3,13 +3,13 @@
 ghost use Rattle.std.specs.Prelude.{◌≡◌, ◌≢◌, ◌⊎◌, ◌↔◌, map, string_bytes, IsTrue, Some, IfSome, IfNone, [], ◌∷◌, decimal};
 ghost use Rattle.zj_block.specs.Sizes.{Numbers, IsInLimits, numbers_of};
 ghost use Rattle.zj_cli.specs.declared.status.Fault.TheVariants as faults;
-ghost use Rattle.zj_cli.specs.Check.{RunsCheck};
+ghost use Rattle.zj_cli.specs.Check.{RunsCheck, RunsDump};
 ghost use Rattle.zj_cli.specs.Outside.{Outside};
 ghost use Rattle.zj_cli.specs.Make.{MakeEnds};
 ghost use Rattle.zj_cli.specs.Play.{RunsPlay};
-ghost use Rattle.zj_cli.specs.Tool.{Asks, Check, Command, IsBeforeWriting, Make, Play, command_of, fault_of, size_words, usual_sizes};
+ghost use Rattle.zj_cli.specs.Tool.{Asks, Check, Command, Dump, IsBeforeWriting, Make, Play, command_of, fault_of, size_words, usual_sizes};
 
-use crate::check::check;
+use crate::check::{check, dump};
 use crate::make::make;
 use crate::play::play;
 use crate::status::{Fault, Status};
@@ -27,8 +27,10 @@ use zj_script::read_number;
 /// is gone when it ends. Reading ends at the byte that is one more than a schedule may have. Nothing is written unless the
 /// whole schedule was read and all its calls have run.
 ///
-/// `check` opens the image on the shelf and writes to `out` what its journals hold; it reads no input and
-/// writes no device, and closes all that it opened.
+/// `check` opens the image on the shelf and writes to `out` what its journals hold and how large the tree is that is
+/// recovered; it reads no input and writes no device, and closes all that it opened.
+///
+/// `dump` does so with the entries of the tree that is recovered.
 ///
 /// The first fault in this order counts: the words; making, or opening the devices and reading them; reading the input;
 /// the schedule; writing to `out`; closing the devices. It may run out of memory at any time. After a fault of
@@ -51,10 +53,14 @@ pub fn zj_tool<H: Shelf, S: Source, K: Sink>(
     ensures check { let before : Outside = record { left = S.left input.old; held = K.held out.old; names = H.names shelf.old; input_faults = S.faults input.old; output_faults = K.faults out.old; shelf_faults = H.faults shelf.old } in
         let after : Outside = record { left = S.left input.new; held = K.held out.new; names = H.names shelf.new; input_faults = S.faults input.new; output_faults = K.faults out.new; shelf_faults = H.faults shelf.new } in
         Asks (map string_bytes words.now) Check → RunsCheck before after (fault_of result) }
+    ensures dump { let before : Outside = record { left = S.left input.old; held = K.held out.old; names = H.names shelf.old; input_faults = S.faults input.old; output_faults = K.faults out.old; shelf_faults = H.faults shelf.old } in
+        let after : Outside = record { left = S.left input.new; held = K.held out.new; names = H.names shelf.new; input_faults = S.faults input.new; output_faults = K.faults out.new; shelf_faults = H.faults shelf.new } in
+        Asks (map string_bytes words.now) Dump → RunsDump before after (fault_of result) }
 
     // What is left as it was.
     ensures untouched { fault_of result ≡ Some faults.Words → (input.new ≡ input.old) × (shelf.new ≡ shelf.old) × (out.new ≡ out.old) }
     ensures input_untouched { Asks (map string_bytes words.now) Check → input.new ≡ input.old }
+    ensures input_untouched_by_dump { Asks (map string_bytes words.now) Dump → input.new ≡ input.old }
     ensures streams_untouched { (sizes : Numbers) → Asks (map string_bytes words.now) (Make sizes) → (input.new ≡ input.old) × (out.new ≡ out.old) }
     ensures unwritten { (command : Command) → Asks (map string_bytes words.now) command → IfSome (fault_of result) (λ fault. IsBeforeWriting command fault → out.new ≡ out.old) }
 {
@@ -64,6 +70,7 @@ pub fn zj_tool<H: Shelf, S: Source, K: Sink>(
     match read_command(words) {
         Some(Reading::Play) => Status::new(play(alloc, shelf, input, out).err()),
         Some(Reading::Check) => Status::new(check(alloc, shelf, out).err()),
+        Some(Reading::Dump) => Status::new(dump(alloc, shelf, out).err()),
         None => Status::new(Some(Fault::Words)),
     }
 }
@@ -73,6 +80,7 @@ pub fn zj_tool<H: Shelf, S: Source, K: Sink>(
 enum Reading {
     Play,
     Check,
+    Dump,
 }
 
 /// The command on an image that the words ask for, if they ask for one.
@@ -80,6 +88,7 @@ fn read_command(words: &[String]) -> Option<Reading>
     ensures some { IfSome result (λ command. Asks (map string_bytes words.now) (command_of command)) }
     ensures no_play { IfNone result (Asks (map string_bytes words.now) Play → ⊥) }
     ensures no_check { IfNone result (Asks (map string_bytes words.now) Check → ⊥) }
+    ensures no_dump { IfNone result (Asks (map string_bytes words.now) Dump → ⊥) }
 {
     let [word] = words else {
         return None;
@@ -87,6 +96,7 @@ fn read_command(words: &[String]) -> Option<Reading>
     match word.as_str() {
         "play" => Some(Reading::Play),
         "check" => Some(Reading::Check),
+        "dump" => Some(Reading::Dump),
         _ => None,
     }
 }

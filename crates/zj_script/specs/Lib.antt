@@ -9,4 +9,5 @@ pub mod Lines
 pub mod Script
 pub mod Writing
 pub mod Answers
+pub mod Entries
 pub mod Laws

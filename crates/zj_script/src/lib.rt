@@ -12,8 +12,8 @@
 //!   Behind a whole line no word is due, and one there is a bad call. A byte past a limit is refused before any word of
 //!   its line.
 //! - `read_front` answers the lines of a schedule up to that place besides (clause `front`).
-//! - `write_line` and `write_answer` add the one spelling of a line and of an answer (clause `added`), and leave the text
-//!   as it was where memory runs out (clause `same`).
+//! - `write_line`, `write_answer` and `write_entry` add the one spelling of a line, of an answer and of an entry of a tree
+//!   (clause `added`), and leave the text as it was where memory runs out (clause `same`).
 //! - `read_number` answers the number that a word spells in decimal (clauses `some`, `none`).
 //! - Laws: a text spells one line, an input is one list of lines, an input is refused at one place and with one kind, and
 //!   one that is refused is no list of lines (`laws`).
@@ -21,6 +21,7 @@
 #![tactic(auto)]
 
 mod answer;
+mod entry;
 mod fault;
 mod kind;
 pub mod laws;
@@ -36,6 +37,7 @@ mod words;
 mod writing;
 
 pub use answer::{Answer, Form, SyncForm, write_answer};
+pub use entry::write_entry;
 pub use fault::ScriptFault;
 pub use kind::Kind;
 pub use line::{Act, Line};

@@ -131,11 +131,18 @@ fn verb_of(call: &Call) -> Verb
 fn put_path(path: &Path, out: &mut Bytes) -> Result<(), AllocError>
     ensures { Adds result out.old out.new (spaced (path_text path.now)) }
 {
+    out.extend(b" ")?;
+    put_first_path(path, out)
+}
+
+/// Adds a path.
+pub(crate) fn put_first_path(path: &Path, out: &mut Bytes) -> Result<(), AllocError>
+    ensures { Adds result out.old out.new (path_text path.now) }
+{
     let names = path.as_slice();
     if names.is_empty() {
-        put_word(b"/", out)
+        out.extend(b"/")
     } else {
-        out.extend(b" ")?;
         put_steps(names, out)
     }
 }

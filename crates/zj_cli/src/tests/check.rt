@@ -216,6 +216,24 @@ fn tree_journal(alloc: Global) -> Result<Vec<u8>, AllocError> {
 }
 
 #[test]
+fn dumps_a_tree(rt: HostRuntime) -> Result<(), Fail> {
+    let alloc = rt.alloc();
+    let tree = tree_journal(alloc)?;
+    let empty = journal(alloc, &[])?;
+    let home = made_home(alloc, &SMALL)?;
+    for (journal, text) in [
+        (&empty, "/ dir 0\n"),
+        (&tree, "/ dir 2\n/a dir 0\n/f file 3 hi%20\n"),
+    ] {
+        let mut shelf = shelf_of(alloc, &[("home", &home, &[]), ("j0", journal, &[])])?;
+        let (status, written) = call(alloc, &mut shelf, &["dump"], b"")?;
+        assert_eq!(rt; status.code(), 0);
+        assert_eq!(rt; written.as_slice(), text.as_bytes());
+    }
+    Ok(())
+}
+
+#[test]
 fn recovers_a_tree(rt: HostRuntime) -> Result<(), Fail> {
     let alloc = rt.alloc();
     let journal = tree_journal(alloc)?;

@@ -3,7 +3,7 @@ use Rattle.zj_block.specs.Sizes.{Numbers}
 use Rattle.zj_cli.specs.declared.status.Fault.{Fault}
 use Rattle.zj_cli.specs.declared.status.Fault.TheVariants as faults
 use Rattle.zj_cli.specs.Tool as commands
-use Rattle.zj_cli.specs.Check.{CheckEnds, RunsCheck}
+use Rattle.zj_cli.specs.Check.{CheckEnds, DumpEnds, RunsCheck, RunsDump}
 use Rattle.zj_cli.specs.Make.{MakeEnds}
 use Rattle.zj_cli.specs.Outside.{Outside}
 use Rattle.zj_cli.specs.Play.{PlayEnds, RunsPlay}
@@ -57,3 +57,23 @@ returns-in-Some-Check-clause-words g c = (
 pub returns-in-Some-Check-clause-untouched : goal.returns-in-Some-Check-clause-untouched
 returns-in-Some-Check-clause-untouched g c words =
     absurd (check_knows_words _ _ _ _ (c.check.ensures.runs (g.S.Source.left c.args.input.now) (g.S.Source.faults c.args.input.now)) (c.new-in-Some-Check.ensures ∙ c.err-in-Some-Check.ensures.value) words)
+
+dump_tells : (before after : Outside) (fault told : Option Fault) → RunsDump before after fault → told ≡ fault → RunsDump before after told
+dump_tells before after fault told runs same = subst (λ (f : Option Fault). RunsDump before after f) (sym same) runs
+
+dump_knows_words : (before after : Outside) (fault told : Option Fault) → RunsDump before after fault → told ≡ fault → told ≡ Some faults.Words → ⊥
+dump_knows_words before after fault told runs same words = subst (λ (f : Option Fault). DumpEnds before after f) (sym same ∙ words) runs.ends
+
+pub returns-in-Some-Dump-clause-dump : goal.returns-in-Some-Dump-clause-dump
+returns-in-Some-Dump-clause-dump g c asks =
+    dump_tells _ _ _ _ (c.dump.ensures.runs (g.S.Source.left c.args.input.now) (g.S.Source.faults c.args.input.now)) (c.new-in-Some-Dump.ensures ∙ c.err-in-Some-Dump.ensures.value)
+
+pub returns-in-Some-Dump-clause-words : goal.returns-in-Some-Dump-clause-words
+returns-in-Some-Dump-clause-words g c = (
+  λ words. absurd (dump_knows_words _ _ _ _ (c.dump.ensures.runs (g.S.Source.left c.args.input.now) (g.S.Source.faults c.args.input.now)) (c.new-in-Some-Dump.ensures ∙ c.err-in-Some-Dump.ensures.value) words),
+  λ none. absurd (none (commands.command_of c.in-Some-Dump.field-0) c.in-Some-Dump.ensures.some),
+)
+
+pub returns-in-Some-Dump-clause-untouched : goal.returns-in-Some-Dump-clause-untouched
+returns-in-Some-Dump-clause-untouched g c words =
+    absurd (dump_knows_words _ _ _ _ (c.dump.ensures.runs (g.S.Source.left c.args.input.now) (g.S.Source.faults c.args.input.now)) (c.new-in-Some-Dump.ensures ∙ c.err-in-Some-Dump.ensures.value) words)
