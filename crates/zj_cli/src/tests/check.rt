@@ -215,21 +215,25 @@ fn tree_journal(alloc: Global) -> Result<Vec<u8>, AllocError> {
     journal(alloc, &record)
 }
 
+/// The status of `dump` over an image of one core with this journal, whose home was just made, and what it wrote.
+fn dumped(alloc: Global, journal: Vec<u8>) -> Result<(Status, Vec<u8>), Fail> {
+    let home = made_home(alloc, &SMALL)?;
+    let mut shelf = shelf_of(alloc, &[("home", &home, &[]), ("j0", &journal, &[])])?;
+    Ok(call(alloc, &mut shelf, &["dump"], b"")?)
+}
+
 #[test]
 fn dumps_a_tree(rt: HostRuntime) -> Result<(), Fail> {
     let alloc = rt.alloc();
-    let tree = tree_journal(alloc)?;
-    let empty = journal(alloc, &[])?;
-    let home = made_home(alloc, &SMALL)?;
-    for (journal, text) in [
-        (&empty, "/ dir 0\n"),
-        (&tree, "/ dir 2\n/a dir 0\n/f file 3 hi%20\n"),
-    ] {
-        let mut shelf = shelf_of(alloc, &[("home", &home, &[]), ("j0", journal, &[])])?;
-        let (status, written) = call(alloc, &mut shelf, &["dump"], b"")?;
-        assert_eq!(rt; status.code(), 0);
-        assert_eq!(rt; written.as_slice(), text.as_bytes());
-    }
+    let (status, written) = dumped(alloc, journal(alloc, &[])?)?;
+    assert_eq!(rt; status.code(), 0);
+    assert_eq!(rt; written.as_slice(), "/ dir 0\n".as_bytes());
+    let (status, written) = dumped(alloc, tree_journal(alloc)?)?;
+    assert_eq!(rt; status.code(), 0);
+    assert_eq!(rt;
+        written.as_slice(),
+        "/ dir 2\n/a dir 0\n/f file 3 hi%20\n".as_bytes()
+    );
     Ok(())
 }
 
