@@ -9,7 +9,7 @@ use zj_dev::MemShelf;
 /// The status of `play` over an image of two cores that was just made, and what it wrote.
 fn played(alloc: Global, input: &str) -> Result<(Status, Vec<u8>), AllocError> {
     let mut shelf = MemShelf::new(alloc)?;
-    call(alloc, &mut shelf, &["make", "64", "16", "2", "131072"], b"")?;
+    call(alloc, &mut shelf, &["make", "64", "8", "2", "131072"], b"")?;
     call(alloc, &mut shelf, &["play"], input.as_bytes())
 }
 
@@ -19,7 +19,7 @@ fn handles_take_turns(rt: HostRuntime) -> Result<(), Fail> {
         // A handle by steps, beside the whole call.
         (
             "0 begin mkdir /a\n0 take\n0 take\n0 take\n0 take\n0 stop\n0 mkdir /b\n",
-            "1 0 begun\n2 0 took 1\n3 0 took 0\n4 0 took 3\n5 0 ready\n6 0 0 ok\n7 0 1 ok\n",
+            "1 0 begun\n2 0 took 1\n3 0 took 0\n4 0 took 2\n5 0 ready\n6 0 0 ok\n7 0 1 ok\n",
         ),
         // Both cores begin; who takes first goes on, in every order of take and stop.
         (
@@ -56,8 +56,8 @@ fn handles_take_turns(rt: HostRuntime) -> Result<(), Fail> {
         ),
         // A whole call is refused while another core has the root's block, and made once it is dropped.
         (
-            "0 begin list /\n0 take\n1 stat /\n0 drop\n1 stat /\n",
-            "1 0 begun\n2 0 took 1\n3 1 busy 1 0\n4 0 dropped\n5 1 0 dir 0\n",
+            "0 begin mkdir /a\n0 take\n1 list /\n0 drop\n1 list /\n",
+            "1 0 begun\n2 0 took 1\n3 1 busy 1 0\n4 0 dropped\n5 1 0 names\n",
         ),
         // A handle that was begun and took nothing holds nobody up.
         (
