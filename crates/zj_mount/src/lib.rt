@@ -7,8 +7,8 @@
 //!   disk's count of faults and the shelf's are told apart; and (`back`) all that were taken out stand where they stood.
 //! - `close_all` (`closed`, `back`): home and then the journals stand again, also where the shelf fails (`cause`).
 //! - `mount` (`tree`, `journals`, `ready`): home's blocks, the tree that they show, and what the journals held, none of which
-//!   holds a record; the journals are then ready. Else (`cause`) the first journal that can't be read; the first that holds a record; or why home gives
-//!   no tree. It writes no device (`home_read`, `read`).
+//!   holds a record; the journals are then ready. Else (`cause`) the first journal that can't be read; the first that holds a
+//!   record; or why home gives no tree. It writes no device (`home_read`, `read`).
 //! - `inspect` (`inspects`): what each journal holds, the greatest consistent cut of it, home's blocks under the newest images of
 //!   that cut, and the tree that these show. Else (`cause`) the first journal that can't be read, or why the recovered blocks
 //!   give no tree. It writes no device (`home_read`, `read`).
@@ -34,7 +34,6 @@ pub use mounting::mount;
 pub use names::{HOME, journal_name};
 pub use opening::{Set, open_all};
 pub use recovered::Recovered;
-pub use scanning::scan_all;
 
 #[cfg(test)]
 mod tests;

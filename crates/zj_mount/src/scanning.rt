@@ -38,7 +38,10 @@ fn scan_one<D: Disk>(area: &mut Area<D>, core: u32) -> Result<usize, MountFault>
 
 /// How many records each journal holds, in the order of the cores. After a fault the counts are those of the
 /// journals before it.
-pub fn scan_all<D: Disk>(areas: &mut [Area<D>], counts: &mut Vec<usize>) -> Result<(), MountFault>
+pub(crate) fn scan_all<D: Disk>(
+    areas: &mut [Area<D>],
+    counts: &mut Vec<usize>,
+) -> Result<(), MountFault>
     requires few { length areas.old ≤ MAX_CORES }
     requires none { counts.old.items ≡ [] }
     ensures counted { OnOk result (AreCounted D.view areas.old counts.new.items (length areas.old)) }
