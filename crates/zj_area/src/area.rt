@@ -126,9 +126,17 @@ impl<D: Disk> Area<D> {
         })
     }
 
+    /// How many reads, writes and syncs were asked of the device: the moment that it is.
+    pub fn calls(&self) -> u64
+        ensures { result ≡ (D.view self.now.device).calls }
+    {
+        self.device.calls()
+    }
+
     /// The core whose journal it is.
     pub fn core(&self) -> u32
-        ensures { result ≡ self.now.core }
+        ensures core { result ≡ self.now.core }
+        ensures within { result < self.now.sizes.cores }
     {
         self.core
     }

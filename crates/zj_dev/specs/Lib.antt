@@ -8,3 +8,4 @@ pub mod Device
 pub mod Medium
 pub mod MemDisk
 pub mod MemShelf
+pub mod Crash

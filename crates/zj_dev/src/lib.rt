@@ -9,6 +9,8 @@
 //!   tear its range until the next sync (clause `ok`), and so may one that failed (`err`). After a sync that
 //!   answered Ok a crash leaves what a read gives; one that failed brings no image that a crash could not
 //!   leave before.
+//! - `Span`: the moments of a device from one on and up to another. A crash set of several devices (`specs/Crash.antt`) has of each an
+//!   image that a crash may leave at some moment of its span.
 //! - `Shelf`: which device stands under each name, and what opening, creating and closing one do to it.
 //! - `Source` and `Sink`: the bytes that are left, and those that are held.
 //! - `MemDisk`, `MemShelf`, `MemSource` and `MemSink` have these meanings, tell everything, and fail where
@@ -28,6 +30,7 @@ pub mod mem_shelf;
 pub mod shelf;
 pub mod sink;
 pub mod source;
+pub mod span;
 
 pub use calls::{DiskFault, sync, write_at};
 pub use device::Device;
@@ -38,6 +41,7 @@ pub use mem_shelf::MemShelf;
 pub use shelf::{Shelf, ShelfFailed};
 pub use sink::{MemSink, OutSink, Sink, WriteFailed};
 pub use source::{InSource, MemSource, ReadFailed, Source};
+pub use span::Span;
 
 #[cfg(test)]
 mod tests;

@@ -3,7 +3,7 @@
 ghost use Rattle.std.specs.Prelude.{◌≡◌, ◌^◌, ◌<◌, IfOk, IfErr, OnOk, OnErr, IfSome, All, length, slice_get, take, vec_len};
 ghost use Rattle.zj_block.specs.Block.{IsContent, bytes_of};
 ghost use Rattle.zj_dev.specs.Fault.{Rose};
-ghost use Rattle.zj_dev.specs.Disk.{LeavesAll, Continues, OnlyReads};
+ghost use Rattle.zj_dev.specs.Disk.{Continues, IsDisk, IsSettled, LeavesAll, OnlyReads, StaysSince};
 ghost use Rattle.zj_home.specs.Home.{IsCause};
 ghost use Rattle.zj_home.specs.Made.{IsMade, IsFailure, MakesOnly, first_super};
 ghost use Rattle.zj_home.specs.Told.{super_told};
@@ -15,7 +15,7 @@ use crate::slot::{HEAD_LEN, Told, read_super};
 use std::alloc::{AllocError, Global};
 use std::marker::Model;
 use zj_block::{BLOCK_LEN, Block, BlockNo, Blocks, Sizes, Tail};
-use zj_dev::{Disk, DiskFault};
+use zj_dev::{Disk, DiskFault, sync};
 
 /// A home that was opened or made: its device, and what its super tells.
 #[derive(Debug, Drop)]
@@ -111,6 +111,13 @@ impl<D: Disk> Home<D> {
         }
     }
 
+    /// How many reads, writes and syncs were asked of the device: the moment that it is.
+    pub fn calls(&self) -> u64
+        ensures { result ≡ (D.view self.now.device).calls }
+    {
+        self.device.calls()
+    }
+
     /// The sizes of the image.
     pub fn sizes(&self) -> &Sizes
         ensures { result.now ≡ self.now.told.sizes }
@@ -136,6 +143,22 @@ impl<D: Disk> Home<D> {
         let cores = self.told.sizes.cores();
         let tail = self.told.tails.at(core);
         if core < cores { tail } else { None }
+    }
+
+    /// Makes what was written before outlast a crash: after Ok a crash leaves what a read gives.
+    ///
+    /// `DiskFault` tells that the device failed; what was pending is pending still.
+    pub fn sync(&mut self) -> Result<(), DiskFault>
+        ensures settled { OnOk result (IsSettled (D.view self.new.device)) }
+        ensures bytes { (D.view self.new.device).bytes ≡ (D.view self.old.device).bytes }
+        ensures images { StaysSince (D.view self.old.device) (D.view self.new.device) }
+        ensures continues { Continues (D.view self.old.device) (D.view self.new.device) }
+        ensures told { self.new.told ≡ self.old.told }
+        ensures is_disk { IsDisk (D.view self.new.device) }
+        ensures cause { OnErr result (Rose (D.view self.old.device).faults (D.view self.new.device).faults) }
+    {
+        let _len = self.device.len();
+        sync(&mut self.device)
     }
 
     /// Reads a block. After `DiskFault` `into` is as it was.
