@@ -1,3 +1,4 @@
+pub mod Settling
 pub mod Areas
 pub mod Image
 pub mod Inspecting

@@ -17,6 +17,7 @@ use Rattle.zj_layout.specs.Shows.{Shows}
 use Rattle.zj_layout.specs.Rules.{FailsFirst}
 use Rattle.zj_mount.specs.declared.fault.MountFault.{MountFault}
 use Rattle.zj_mount.specs.declared.fault.MountFault.TheVariants as faults
+use Rattle.zj_mount.specs.Settling.{IsSettleCause}
 use Rattle.zj_mount.specs.Scanning.{AreCounted, AreaHolds, FailsAt, IsDamagedAt}
 
 -- An area is the journal of that core of an image: with the image's sizes, and from home's tail of that core on.
@@ -78,6 +79,6 @@ IsHomeCause view super old new (faults.NoTree rule block) = IfSome (view old).by
 IsHomeCause view super old new faults.NoMemory = ⊤
 IsHomeCause view super old new fault = ⊥
 
--- Why an image was not mounted: by its journals first; and where none holds a record, by home.
+-- Why an image was not mounted: a device was not settled; or else by its journals first; and where none holds a record, by home.
 abbrev pub IsMountCause : {D : Type 0} → (D → DiskView) → Super → D → D → List (AreaView D) → List (AreaView D) → MountFault → Type 0
-IsMountCause view super home home' old new fault = IsUsedCause view old new fault ⊎ (AreEmpty view old (length old) × IsHomeCause view super home home' fault)
+IsMountCause view super home home' old new fault = IsSettleCause view home home' old new fault ⊎ IsUsedCause view old new fault ⊎ (AreEmpty view old (length old) × IsHomeCause view super home home' fault)

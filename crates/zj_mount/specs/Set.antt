@@ -2,7 +2,7 @@
 use Rattle.std.specs.Prelude.{◌≡◌, ◌≢◌, ℕ, ◌<◌, List, MatchOption, slice_get, bytes_eq, if◌then◌else◌}
 use Rattle.zj_block.specs.declared.sizes.TheConstants.{MAX_CORES}
 use Rattle.zj_dev.specs.Disk.{DiskView, OnlyReads}
-use Rattle.zj_dev.specs.Shelf.{ShelfView, Slot, Untold, Absent, Out, Stands}
+use Rattle.zj_dev.specs.Shelf.{Closes, ShelfView, Slot, Untold, Absent, Out, Stands}
 use Rattle.zj_dev.specs.Device.{device_name}
 use Rattle.zj_dev.specs.declared.device.Device.TheVariants as devices
 use Rattle.zj_area.specs.Journal.{AreaView}
@@ -41,18 +41,26 @@ IsLent before now disk = WentTo Out (λ stood. OnlyReads stood disk) before now
 abbrev pub IsPutBack : Slot → Slot → DiskView → Type 0
 IsPutBack before now disk = WentTo (Stands disk) (λ stood. OnlyReads stood disk) before now
 
--- What stood there stands there, and was only read since.
-abbrev pub IsBack : Slot → Slot → Type 0
-IsBack Untold now = now ≡ Untold
-IsBack (Stands stood) now = (disk : DiskView) × (now ≡ Stands disk) × OnlyReads stood disk
-IsBack Absent now = now ≡ Absent
-IsBack Out now = now ≡ Out
+-- What stood there stands there, and this was done to it since.
+abbrev pub IsBackAs : (DiskView → DiskView → Type 0) → Slot → Slot → Type 0
+IsBackAs Did Untold now = now ≡ Untold
+IsBackAs Did (Stands stood) now = (disk : DiskView) × (now ≡ Stands disk) × Did stood disk
+IsBackAs Did Absent now = now ≡ Absent
+IsBackAs Did Out now = now ≡ Out
 
--- Home and each journal stand where they stood, and were only read; all other names have what they had.
-pub record AllBack (before now : ShelfView) : Type 0 where
-  pub home : IsBack (before home_name) (now home_name)
-  pub journals : (core : ℕ) → core < MAX_CORES → IsBack (before (journal_name core)) (now (journal_name core))
+-- it was only read since
+abbrev pub IsBack : Slot → Slot → Type 0
+IsBack = IsBackAs OnlyReads
+
+-- Home and each journal stand where they stood, with what was done to them since; all other names have what they had.
+pub record AllBackAs (ToHome ToJournal : DiskView → DiskView → Type 0) (before now : ShelfView) : Type 0 where
+  pub home : IsBackAs ToHome (before home_name) (now home_name)
+  pub journals : (core : ℕ) → core < MAX_CORES → IsBackAs ToJournal (before (journal_name core)) (now (journal_name core))
   pub others : (name : List ℕ) → name ≢ home_name → IsNoJournal name → now name ≡ before name
+
+-- they were only read
+abbrev pub AllBack : ShelfView → ShelfView → Type 0
+AllBack = AllBackAs OnlyReads OnlyReads
 
 -- Home and the journals of these areas, from core 0 on, are out, and all else is back.
 pub record IsOut {D : Type 0} (view : D → DiskView) (before now : ShelfView) (home : DiskView) (areas : List (AreaView D)) : Type 0 where
@@ -65,3 +73,9 @@ pub record IsClosed {D : Type 0} (view : D → DiskView) (before now : ShelfView
   pub home_back : IsPutBack (before home_name) (now home_name) home
   pub journals : (core : ℕ) → core < MAX_CORES → MatchOption (slice_get areas core) (IsBack (before (journal_name core)) (now (journal_name core))) (λ area. IsPutBack (before (journal_name core)) (now (journal_name core)) (view area.device))
   pub others : (name : List ℕ) → name ≢ home_name → IsNoJournal name → now name ≡ before name
+
+-- These devices were put back under their names, where those were out; all other names have what they had.
+pub record ClosesAll {D : Type 0} (view : D → DiskView) (old now : ShelfView) (home : DiskView) (areas : List (AreaView D)) : Type 0 where
+  pub home_closed : Closes home (old home_name) (now home_name)
+  pub journals : (core : ℕ) → core < MAX_CORES → MatchOption (slice_get areas core) (now (journal_name core) ≡ old (journal_name core)) (λ area. Closes (view area.device) (old (journal_name core)) (now (journal_name core)))
+  pub others : (name : List ℕ) → name ≢ home_name → IsNoJournal name → now name ≡ old name

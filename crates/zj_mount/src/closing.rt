@@ -6,7 +6,7 @@ ghost use Rattle.zj_dev.specs.Fault.{Rose};
 ghost use Rattle.zj_dev.specs.Shelf.{ShelfView, OthersStay, Closes};
 ghost use Rattle.zj_home.specs.Super.{Super};
 ghost use Rattle.zj_mount.specs.Opening.{IsJournalBelow, IsOfSet, StopsOpening};
-ghost use Rattle.zj_mount.specs.Set.{AllBack, IsClosed, IsLent, IsOut, home_name, journal_name};
+ghost use Rattle.zj_mount.specs.Set.{AllBack, ClosesAll, IsClosed, IsLent, IsOut, home_name, journal_name};
 
 use crate::areas::Areas;
 use crate::fault::CloseFault;
@@ -59,6 +59,7 @@ pub fn close_all<H: Shelf>(shelf: &mut H, set: Set<H::D>) -> Result<(), CloseFau
     requires { length set.areas.areas ≤ MAX_CORES }
     ensures closed { (before : ShelfView) → IsOut H.D.view before (H.names shelf.old) (H.D.view set.home.device) set.areas.areas → IsClosed H.D.view before (H.names shelf.new) (H.D.view set.home.device) set.areas.areas }
     ensures back { (before : ShelfView) → IsOut H.D.view before (H.names shelf.old) (H.D.view set.home.device) set.areas.areas → AllBack before (H.names shelf.new) }
+    ensures closes { ClosesAll H.D.view (H.names shelf.old) (H.names shelf.new) (H.D.view set.home.device) set.areas.areas }
     ensures cause { IfErr result (λ fault. IsOfSet (length set.areas.areas) fault.device × Rose (H.faults shelf.old) (H.faults shelf.new)) }
     ensures quiet { OnOk result (H.faults shelf.new ≡ H.faults shelf.old) }
     ensures no_fewer { H.faults shelf.old ≤ H.faults shelf.new }

@@ -27,8 +27,9 @@ use zj_home::Home;
 use zj_layout::read_tree;
 use zj_tree::Tree;
 
-/// Mounts an image, whose journals are in the order of their cores: reads each journal, and then the blocks of home and the
-/// tree that they show. It writes no device and syncs none, so what was pending on a device is pending still.
+/// Mounts an image, whose journals are in the order of their cores: syncs home and then each journal, reads each
+/// journal, and then the blocks of home and the tree that they show. It writes no device. What was pending on one outlasts a crash from
+/// then on.
 ///
 /// Records are not replayed yet: the lowest journal that holds one is refused as `Unbuilt`, once all were read.
 pub fn mount<D: Disk>(
@@ -51,13 +52,16 @@ pub fn mount<D: Disk>(
     // Or why nothing was.
     ensures cause { IfErr result (IsMountCause D.view home.old.told home.old.device home.new.device areas.old.areas areas.new.areas) }
 
-    // What it does to the devices: it reads them.
+    // What it does to the devices: it syncs and reads them.
     ensures told { home.new.told ≡ home.old.told }
-    ensures home_read { OnlyReads (D.view home.old.device) (D.view home.new.device) }
-    ensures read { AreRead D.view areas.old.areas areas.new.areas }
+    ensures home { Settles (D.view home.old.device) (D.view home.new.device) }
+    ensures settled { OnOk result (IsSettled (D.view home.new.device)) }
+    ensures settles { AreSettled D.view areas.old.areas areas.new.areas }
+    ensures rest { OnOk result (RestEmpty D.view areas.old.areas areas.new.areas) }
     ensures count { length areas.new.areas ≡ length areas.old.areas }
     ensures spare { areas.new.spare ≡ areas.old.spare }
 {
+    settle_all(home, areas)?;
     refuse_used(alloc, areas)?;
     let (blocks, tree) = read_home(alloc, home)?;
     let journals = empty_journals(alloc, home)?;
