@@ -11,7 +11,7 @@ use Rattle.zj_dev.specs.Fault.{Rose}
 use Rattle.zj_dev.specs.Shelf.{ShelfView, Slot, Untold, Absent, Out, Stands, Closes, OthersStay}
 use Rattle.zj_area.specs.Journal.{AreaView}
 use Rattle.zj_mount.specs.declared.fault.CloseFault.{CloseFault}
-use Rattle.zj_mount.specs.Set.{AllBack, IsBack, IsClosed, IsLent, IsOut, IsPutBack, home_name, journal_name}
+use Rattle.zj_mount.specs.Set.{AllBack, ClosesAll, IsBack, IsClosed, IsLent, IsOut, IsPutBack, home_name, journal_name}
 
 -- The journals of these areas that stand before that core are closed.
 abbrev pub ClosedBelow : {D : Type 0} → (D → DiskView) → List (AreaView D) → ℕ → ShelfView → ShelfView → Type 0
@@ -53,13 +53,12 @@ still Absent now disk back = absurd back
 still Out now disk back = absurd back
 
 -- the slot of a journal that has an area, or none
-pub put_back_some : {D : Type 0} (view : D → DiskView) (found : Option (AreaView D)) (before old mid new : Slot) → mid ≡ old
+pub put_back_some : {D : Type 0} (view : D → DiskView) (found : Option (AreaView D)) (before old new : Slot)
     → MatchOption found (IsBack before old) (λ area. IsLent before old (view area.device))
-    → MatchOption found (new ≡ mid) (λ area. Closes (view area.device) mid new)
+    → MatchOption found (new ≡ old) (λ area. Closes (view area.device) old new)
     → MatchOption found (IsBack before new) (λ area. IsPutBack before new (view area.device))
-put_back_some view None before old mid new stay out closed = subst (IsBack before) (sym (closed ∙ stay)) out
-put_back_some view (Some area) before old mid new stay out closed =
-    put_back before old new (view area.device) out (subst (λ slot. Closes (view area.device) slot new) stay closed)
+put_back_some view None before old new out closed = subst (IsBack before) (sym closed) out
+put_back_some view (Some area) before old new out closed = put_back before old new (view area.device) out closed
 
 pub still_some : {D : Type 0} (view : D → DiskView) (found : Option (AreaView D)) (before now : Slot)
     → MatchOption found (IsBack before now) (λ area. IsPutBack before now (view area.device)) → IsBack before now
@@ -139,18 +138,25 @@ closed_or_kept view areas old new core few small journals kept =
     ]
 
 -- home and then the journals are closed
-pub closed_all : {D : Type 0} (view : D → DiskView) (before old mid new : ShelfView) (home : DiskView) (areas : List (AreaView D)) → length areas ≤ 8
-    → IsOut view before old home areas
+pub closes_all : {D : Type 0} (view : D → DiskView) (old mid new : ShelfView) (home : DiskView) (areas : List (AreaView D)) → length areas ≤ 8
     → Closes home (old home_name) (mid home_name) → OthersStay home_name old mid
     → ClosedBelow view areas (length areas) mid new → KeptBut (length areas) mid new
-    → IsClosed view before new home areas
-closed_all view before old mid new home areas few out closed stay journals kept = record {
-  home_back = put_back (before home_name) (old home_name) (new home_name) home out.home_lent
-      (subst (Closes home (old home_name)) (sym (kept home_name (λ core below same. no_home core (sym same)))) closed);
-  journals = λ core small. put_back_some view (slice_get areas core) (before (journal_name core)) (old (journal_name core)) (mid (journal_name core)) (new (journal_name core))
-      (stay (journal_name core) (no_home core)) (out.journals core small) (closed_or_kept view areas mid new core few small journals kept);
-  others = λ name other none.
-      kept name (λ core below. none core (omega arith)) ∙ stay name other ∙ out.others name other none;
+    → ClosesAll view old new home areas
+closes_all view old mid new home areas few closed stay journals kept = record {
+  home_closed = subst (Closes home (old home_name)) (sym (kept home_name (λ core below same. no_home core (sym same)))) closed;
+  journals = λ core small.
+      subst (λ slot. MatchOption (slice_get areas core) (new (journal_name core) ≡ slot) (λ area. Closes (view area.device) slot (new (journal_name core))))
+      (stay (journal_name core) (no_home core))
+      (closed_or_kept view areas mid new core few small journals kept);
+  others = λ name other none. kept name (λ core below. none core (omega arith)) ∙ stay name other;
+}
+
+-- those that were out stand again
+pub closed_all : {D : Type 0} (view : D → DiskView) (before old new : ShelfView) (home : DiskView) (areas : List (AreaView D)) → IsOut view before old home areas → ClosesAll view old new home areas → IsClosed view before new home areas
+closed_all view before old new home areas out closes = record {
+  home_back = put_back (before home_name) (old home_name) (new home_name) home out.home_lent closes.home_closed;
+  journals = λ core small. put_back_some view (slice_get areas core) (before (journal_name core)) (old (journal_name core)) (new (journal_name core)) (out.journals core small) (closes.journals core small);
+  others = λ name other none. closes.others name other none ∙ out.others name other none;
 }
 
 -- what is closed is back

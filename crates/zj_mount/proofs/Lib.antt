@@ -6,3 +6,4 @@ pub mod Opened
 pub mod Refused
 pub mod ScanLemmas
 pub mod SetLemmas
+pub mod SettleLemmas

@@ -19,7 +19,7 @@ use Rattle.zj_layout.specs.Faults.{IsFirstFault}
 use Rattle.zj_layout.specs.Image.{image_of}
 use Rattle.zj_layout.specs.Rules.{FailsFirst}
 use Rattle.zj_mount.specs.Mounting.{AreEmpty, FailsIn, HoldsFirst, IsHomeCause, IsUsedCause, fault_of_tree}
-use Rattle.zj_mount.specs.Scanning.{AreCounted, AreaHolds, FailsAt, HoldsSome, IsAreaCause, IsDamagedAt, StopsAt}
+use Rattle.zj_mount.specs.Scanning.{AreCounted, AreaHolds, FailsAt, HoldsSome, IsAreaCause, IsDamagedAt, RestIfNone, RestIfSettled, RestsIfSettled, StopsAt}
 use Rattle.zj_dev.specs.declared.device.Device.{Device}
 use Rattle.zj_dev.specs.declared.device.Device.TheVariants as devices
 use Rattle.zj_block.specs.declared.numbers.Tail.{Tail}
@@ -60,6 +60,15 @@ module _ {D : Type 0} (view : D → DiskView) (areas : List (AreaView D)) (count
       by : (o : Option (AreaView D)) → IsSomeAnd o (λ a. HoldsSome view a 0) → IsSomeAnd o (λ a. AreaHolds view a [])
       by None h = absurd h
       by (Some a) h = subst (λ (rs : List Record). AreaHolds view a rs) (no_record h.0 h.1) h.2
+
+  -- and at rest, where they were settled
+  pub are_resting : (now : List (AreaView D)) (count : ℕ) → RestIfNone view areas now counts count → ((core : ℕ) → core < count → slice_get counts core ≡ Some 0) → RestIfSettled view areas now count
+  are_resting now count resting zero core below = by (slice_get areas core) (slice_get now core) (rw (zero core below) at (resting core below))
+    where
+      by : (o n : Option (AreaView D)) → IsSomeAnd o (λ a. IsSomeAnd n (λ b. ◌≡◌ {A = ℕ} 0 0 → RestsIfSettled view a b)) → IsSomeAnd o (λ a. IsSomeAnd n (RestsIfSettled view a))
+      by None n rests = absurd rests
+      by (Some a) None rests = absurd rests
+      by (Some a) (Some b) rests = rests refl
 
   -- and one whose count is not 0 is not
   pub holds_first : (core count : ℕ) → AreCounted view areas counts (length areas) → core < length areas → ((k : ℕ) → k < core → slice_get counts k ≡ Some 0) → slice_get counts core ≡ Some count → 0 < count → HoldsFirst view areas core
@@ -125,6 +134,12 @@ pub counted_empty : {D T : Type 0} (view : D → DiskView) (areas : List (AreaVi
     → OnOk result ((core : ℕ) → core < length counts → slice_get counts core ≡ Some 0) → OnOk result (AreEmpty view areas (length areas))
 counted_empty view areas counts (Ok x) many counted none = are_empty view areas counts (length areas) counted (λ core below. none core (omega (arith, below, many)))
 counted_empty view areas counts (Err fault) many counted none = tt
+
+-- and rests
+pub counted_resting : {D T : Type 0} (view : D → DiskView) (areas now : List (AreaView D)) (counts : List ℕ) (result : Result T MountFault) → length counts ≡ length areas → RestIfNone view areas now counts (length areas)
+    → OnOk result ((core : ℕ) → core < length counts → slice_get counts core ≡ Some 0) → OnOk result (RestIfSettled view areas now (length areas))
+counted_resting view areas now counts (Ok x) many resting none = are_resting view areas counts now (length areas) resting (λ core below. none core (omega (arith, below, many)))
+counted_resting view areas now counts (Err fault) many resting none = tt
 
 -- or one does
 pub counted_used : {D T : Type 0} (view : D → DiskView) (old new : List (AreaView D)) (counts : List ℕ) (result : Result T MountFault) → length counts ≡ length old → AreCounted view old counts (length old)

@@ -6,7 +6,7 @@ use Rattle.std.proofs.lemmas.List.{length_push}
 use Rattle.zj_dev.specs.Disk.{DiskView, OnlyReads}
 use Rattle.zj_area.specs.Journal.{AreaView}
 use Rattle.zj_mount.specs.declared.fault.MountFault.{MountFault}
-use Rattle.zj_mount.specs.Scanning.{AreCounted, AreRead, AreReady, HoldsSome, IsAreaCause, IsNowReady, StopsAt}
+use Rattle.zj_mount.specs.Scanning.{AreCounted, AreRead, AreReady, HoldsSome, IsAreaCause, IsNowReady, RestIfNone, RestsIfSettled, StopsAt}
 use Rattle.zj_mount.proofs.OpenLemmas.{push_at, push_before}
 use Rattle.zj_dev.proofs.DiskLaws.{reads_refl}
 
@@ -31,9 +31,10 @@ module _ {D : Type 0} (view : D → DiskView) (old : List (AreaView D)) where
     pub many : length counts ≡ core
     pub counted : AreCounted view old counts core
     pub ready : AreReady old now core
+    pub resting : RestIfNone view old now counts core
 
   pub read_none : ReadTo old [] 0
-  read_none = record { read = λ core. none (slice_get old core); rest = λ k le. refl; many = refl; counted = λ core below. absurd (omega arith); ready = λ core below. absurd (omega arith) }
+  read_none = record { read = λ core. none (slice_get old core); rest = λ k le. refl; many = refl; counted = λ core below. absurd (omega arith); ready = λ core below. absurd (omega arith); resting = λ core below. absurd (omega arith) }
     where
       none : (o : Option (AreaView D)) → MatchOption o (o ≡ None) (λ a. IsSomeAnd o (λ b. OnlyReads (view a.device) (view b.device)))
       none None = refl
@@ -57,8 +58,8 @@ module _ {D : Type 0} (view : D → DiskView) (old : List (AreaView D)) where
 
   -- and counted
   pub read_more : (now : List (AreaView D)) (counts : List ℕ) (core count : ℕ) (a b : AreaView D) → core < length now → slice_get now core ≡ Some a → ReadTo now counts core → OnlyReads (view a.device) (view b.device) → IsNowReady a b → HoldsSome view a count
-      → ReadTo (set now core b) (counts ++ count ∷ []) (core + 1)
-  read_more now counts core count a b below here so_far reads ready holds = record {
+      → (count ≡ 0 → RestsIfSettled view a b) → ReadTo (set now core b) (counts ++ count ∷ []) (core + 1)
+  read_more now counts core count a b below here so_far reads ready holds rests = record {
     read = read_here now counts core a b below here so_far reads;
     rest = λ k le. set_elsewhere now core k b (λ e. omega (arith, e)) ∙ so_far.rest k (omega arith);
     many = omega (arith, length_push counts count, so_far.many);
@@ -76,6 +77,15 @@ module _ {D : Type 0} (view : D → DiskView) (old : List (AreaView D)) where
               let there : IsSomeAnd (slice_get old core) (λ x. IsSomeAnd (slice_get (set now core b) core) (IsNowReady x)) = rw (next_is now counts core a here so_far, set_there now core b below) ready in
               subst (λ (i : ℕ). IsSomeAnd (slice_get old i) (λ x. IsSomeAnd (slice_get (set now core b) i) (IsNowReady x))) (sym e) there
           | inr other ↦ rw (set_elsewhere now core k b other) (so_far.ready k (omega arith))
+        ];
+    resting = λ k under.
+        elim (cases_eq k core) [
+          | inl e ↦
+              let at : slice_get (counts ++ count ∷ []) core ≡ Some count = ap (slice_get (counts ++ count ∷ [])) (sym so_far.many) ∙ push_at counts count in
+              let there : IsSomeAnd (slice_get old core) (λ x. IsSomeAnd (slice_get (set now core b) core) (λ y. IsSomeAnd (slice_get (counts ++ count ∷ []) core) (λ n. n ≡ 0 → RestsIfSettled view x y))) =
+              rw (next_is now counts core a here so_far, set_there now core b below, at) rests in
+              subst (λ (i : ℕ). IsSomeAnd (slice_get old i) (λ x. IsSomeAnd (slice_get (set now core b) i) (λ y. IsSomeAnd (slice_get (counts ++ count ∷ []) i) (λ n. n ≡ 0 → RestsIfSettled view x y)))) (sym e) there
+          | inr other ↦ rw (set_elsewhere now core k b other, push_before counts count k (omega (arith, so_far.many))) (so_far.resting k (omega arith))
         ];
   }
 

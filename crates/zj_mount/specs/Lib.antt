@@ -1,4 +1,3 @@
-pub mod Settling
 pub mod Areas
 pub mod Image
 pub mod Inspecting
@@ -8,3 +7,4 @@ pub mod Opening
 pub mod Recovered
 pub mod Scanning
 pub mod Set
+pub mod Settling

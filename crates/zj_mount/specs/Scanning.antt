@@ -1,10 +1,11 @@
 -- The journals of an image as they are read, one after the other.
-use Rattle.std.specs.Prelude.{◌≡◌, ℕ, ◌<◌, true, List, length, None, IfSome, IsSomeAnd, MatchOption, slice_get, ⊤}
+use Rattle.std.specs.Prelude.{◌≡◌, ℕ, ◌<◌, true, List, [], length, None, IfSome, IsSomeAnd, MatchOption, slice_get, ⊤}
 use Rattle.zj_dev.specs.Fault.{Rose}
-use Rattle.zj_dev.specs.Disk.{DiskView, OnlyReads}
+use Rattle.zj_dev.specs.Disk.{DiskView, IsSettled, OnlyReads}
 use Rattle.zj_dev.specs.declared.device.Device.TheVariants as devices
 use Rattle.zj_tx.specs.Record.{Record}
-use Rattle.zj_area.specs.Journal.{AreaView}
+use Rattle.zj_area.specs.Cause.{IsKnown}
+use Rattle.zj_area.specs.Journal.{AreaView, IsAtRest, journal_of}
 use Rattle.zj_area.specs.Ring.{Holds, IsDamaged}
 use Rattle.zj_mount.specs.declared.fault.MountFault.{MountFault}
 use Rattle.zj_mount.specs.declared.fault.MountFault.TheVariants as faults
@@ -32,6 +33,18 @@ HoldsSome view a count = (records : List Record) × (length records ≡ count) �
 -- the devices of the first areas, so many, hold as many records as the counts tell
 abbrev pub AreCounted : {D : Type 0} → (D → DiskView) → List (AreaView D) → List ℕ → ℕ → Type 0
 AreCounted view areas counts many = (core : ℕ) → core < many → IsSomeAnd (slice_get areas core) (λ a. IsSomeAnd (slice_get counts core) (HoldsSome view a))
+
+-- where the end of an area was not known and nothing was pending on it, it is at rest with no record
+abbrev pub RestsIfSettled : {D : Type 0} → (D → DiskView) → AreaView D → AreaView D → Type 0
+RestsIfSettled view old new = (IsKnown (journal_of view old) → ⊥) → IsSettled (view old.device) → IsAtRest (journal_of view new) []
+
+-- this is so of the first areas, so many
+abbrev pub RestIfSettled : {D : Type 0} → (D → DiskView) → List (AreaView D) → List (AreaView D) → ℕ → Type 0
+RestIfSettled view old new many = (core : ℕ) → core < many → IsSomeAnd (slice_get old core) (λ a. IsSomeAnd (slice_get new core) (RestsIfSettled view a))
+
+-- and this of those that hold no record, as the counts tell
+abbrev pub RestIfNone : {D : Type 0} → (D → DiskView) → List (AreaView D) → List (AreaView D) → List ℕ → ℕ → Type 0
+RestIfNone view old new counts many = (core : ℕ) → core < many → IsSomeAnd (slice_get old core) (λ a. IsSomeAnd (slice_get new core) (λ b. IsSomeAnd (slice_get counts core) (λ count. count ≡ 0 → RestsIfSettled view a b)))
 
 -- the device of an area failed, and its count of faults rose
 abbrev pub FailsAt : {D : Type 0} → (D → DiskView) → AreaView D → AreaView D → Type 0

@@ -1,10 +1,11 @@
 -- Devices that are settled: what was pending on them outlasts a crash from then on. Nothing is written.
-use Rattle.std.specs.Prelude.{◌≡◌, ℕ, List, [], None, Some, IsSomeAnd, MatchOption, slice_get}
-use Rattle.zj_dev.specs.Disk.{Continues, DiskView, StaysSince}
+use Rattle.std.specs.Prelude.{◌≡◌, ℕ, ◌<◌, List, [], None, Some, IsSomeAnd, MatchOption, slice_get}
+use Rattle.zj_dev.specs.Disk.{Continues, DiskView, IsSettled, StaysSince}
 use Rattle.zj_dev.specs.Fault.{Rose}
 use Rattle.zj_dev.specs.declared.device.Device.TheVariants as devices
 use Rattle.zj_area.specs.Cause.{IsKnown}
 use Rattle.zj_area.specs.Journal.{AreaView, IsAtRest, journal_of}
+use Rattle.zj_mount.specs.Scanning.{FailsAt}
 use Rattle.zj_mount.specs.declared.fault.MountFault.{MountFault}
 use Rattle.zj_mount.specs.declared.fault.MountFault.TheVariants as faults
 
@@ -28,3 +29,22 @@ abbrev pub IsSettleCause : {D : Type 0} → (D → DiskView) → D → D → Lis
 IsSettleCause view home home' old new (faults.DiskFault devices.Home) = Rose (view home).faults (view home').faults
 IsSettleCause view home home' old new (faults.DiskFault (devices.Journal core)) = IsSomeAnd (slice_get old core) (λ a. IsSomeAnd (slice_get new core) (λ b. Rose (view a.device).faults (view b.device).faults))
 IsSettleCause view home home' old new fault = ⊥
+
+-- ---- on the way
+
+-- An area whose device was settled, or failed as it was to be, and that is else as it was.
+pub record IsSynced {D : Type 0} (view : D → DiskView) (old new : AreaView D) : Type 0 where
+  pub settles : Settles (view old.device) (view new.device)
+  pub same : new ≡ record old { device = new.device }
+
+-- each area is there still, and is such a one
+abbrev pub AreSynced : {D : Type 0} → (D → DiskView) → List (AreaView D) → List (AreaView D) → Type 0
+AreSynced view old new = (core : ℕ) → MatchOption (slice_get old core) (slice_get new core ≡ None) (λ a. IsSomeAnd (slice_get new core) (IsSynced view a))
+
+-- nothing is pending on the devices of the first areas, so many
+abbrev pub AllSettled : {D : Type 0} → (D → DiskView) → List (AreaView D) → ℕ → Type 0
+AllSettled view areas many = (core : ℕ) → core < many → IsSomeAnd (slice_get areas core) (λ a. IsSettled (view a.device))
+
+-- why areas were not all settled: the device of one failed
+abbrev pub FailsToSettle : {D : Type 0} → (D → DiskView) → List (AreaView D) → List (AreaView D) → MountFault → Type 0
+FailsToSettle view old new fault = (core : ℕ) × (fault ≡ faults.DiskFault (devices.Journal core)) × IsSomeAnd (slice_get old core) (λ a. IsSomeAnd (slice_get new core) (FailsAt view a))

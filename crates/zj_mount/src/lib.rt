@@ -25,6 +25,7 @@ mod names;
 mod opening;
 mod recovered;
 mod scanning;
+mod settling;
 
 pub use areas::Areas;
 pub use closing::close_all;

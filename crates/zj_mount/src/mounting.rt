@@ -4,7 +4,7 @@ ghost use Rattle.std.specs.Prelude.{◌≡◌, ◌⊎◌, ◌<◌, ◌≤◌, �
 ghost use Rattle.std.specs.Option.{option_map};
 ghost use Rattle.zj_block.specs.declared.sizes.TheConstants.{MAX_CORES};
 ghost use Rattle.zj_block.specs.Block.{IsContent, bytes_of};
-ghost use Rattle.zj_dev.specs.Disk.{OnlyReads};
+ghost use Rattle.zj_dev.specs.Disk.{IsSettled, OnlyReads};
 ghost use Rattle.zj_dev.specs.Fault.{Rose};
 ghost use Rattle.zj_home.specs.Made.{HoldsBlocks};
 ghost use Rattle.zj_home.specs.Super.{block_bytes_in};
@@ -13,12 +13,14 @@ ghost use Rattle.zj_dev.specs.declared.device.Device.TheVariants as devices;
 ghost use Rattle.zj_mount.specs.declared.fault.MountFault.TheVariants as faults;
 ghost use Rattle.zj_mount.specs.Mounting.{AreEmpty, AreInOrder, HasTree, IsHomeCause, IsMountCause, IsUsedCause};
 ghost use Rattle.zj_mount.specs.Recovered.{empty_from};
-ghost use Rattle.zj_mount.specs.Scanning.{AreRead, AreReady};
+ghost use Rattle.zj_mount.specs.Scanning.{AreRead, AreReady, RestIfSettled};
+ghost use Rattle.zj_mount.specs.Settling.{AreSettled, RestEmpty, Settles};
 
 use crate::areas::Areas;
 use crate::fault::MountFault;
 use crate::recovered::{Recovered, Tally};
 use crate::scanning::scan_all;
+use crate::settling::settle_all;
 use std::alloc::{AllocError, Global};
 use zj_area::Area;
 use zj_block::{Block, BlockNo, Blocks};
@@ -27,8 +29,8 @@ use zj_home::Home;
 use zj_layout::read_tree;
 use zj_tree::Tree;
 
-/// Mounts an image, whose journals are in the order of their cores: syncs home and then each journal, reads each
-/// journal, and then the blocks of home and the tree that they show. It writes no device. What was pending on one outlasts a crash from
+/// Mounts an image, whose journals are in the order of their cores: syncs home and then each journal, reads each journal, and
+/// then the blocks of home and the tree that they show. It writes no device. What was pending on one outlasts a crash from
 /// then on.
 ///
 /// Records are not replayed yet: the lowest journal that holds one is refused as `Unbuilt`, once all were read.
@@ -73,6 +75,7 @@ fn refuse_used<D: Disk>(alloc: Global, areas: &mut Areas<D>) -> Result<(), Mount
     requires { length areas.old.areas ≤ MAX_CORES }
     ensures empty { OnOk result (AreEmpty D.view areas.old.areas (length areas.old.areas)) }
     ensures ready { OnOk result (AreReady areas.old.areas areas.new.areas (length areas.old.areas)) }
+    ensures rest { OnOk result (RestIfSettled D.view areas.old.areas areas.new.areas (length areas.old.areas)) }
     ensures cause { IfErr result (IsUsedCause D.view areas.old.areas areas.new.areas) }
     ensures read { AreRead D.view areas.old.areas areas.new.areas }
     ensures count { length areas.new.areas ≡ length areas.old.areas }
@@ -86,6 +89,7 @@ fn read_empty<D: Disk>(alloc: Global, areas: &mut [Area<D>]) -> Result<(), Mount
     requires { length areas.old ≤ MAX_CORES }
     ensures empty { OnOk result (AreEmpty D.view areas.old (length areas.old)) }
     ensures ready { OnOk result (AreReady areas.old areas.new (length areas.old)) }
+    ensures rest { OnOk result (RestIfSettled D.view areas.old areas.new (length areas.old)) }
     ensures cause { IfErr result (IsUsedCause D.view areas.old areas.new) }
     ensures read { AreRead D.view areas.old areas.new }
 {

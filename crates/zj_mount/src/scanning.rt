@@ -3,7 +3,7 @@
 ghost use Rattle.std.specs.Prelude.{◌≡◌, ◌≤◌, [], IfOk, IfErr, OnOk, length};
 ghost use Rattle.zj_block.specs.declared.sizes.TheConstants.{MAX_CORES};
 ghost use Rattle.zj_dev.specs.Disk.{OnlyReads};
-ghost use Rattle.zj_mount.specs.Scanning.{AreCounted, AreRead, AreReady, HoldsSome, IsAreaCause, IsNowReady, StopsAt};
+ghost use Rattle.zj_mount.specs.Scanning.{AreCounted, AreRead, AreReady, HoldsSome, IsAreaCause, IsNowReady, RestIfNone, RestsIfSettled, StopsAt};
 
 use crate::fault::MountFault;
 use zj_area::{Area, ScanFault};
@@ -13,6 +13,7 @@ use zj_dev::{Device, Disk};
 fn scan_one<D: Disk>(area: &mut Area<D>, core: u32) -> Result<usize, MountFault>
     ensures count { IfOk result (HoldsSome D.view area.old) }
     ensures ready { OnOk result (IsNowReady area.old area.new) }
+    ensures rest { IfOk result (λ count. count ≡ 0 → RestsIfSettled D.view area.old area.new) }
     ensures read { OnlyReads (D.view area.old.device) (D.view area.new.device) }
     ensures cause { IfErr result (IsAreaCause D.view core area.old area.new) }
 {
@@ -47,6 +48,7 @@ pub(crate) fn scan_all<D: Disk>(
     ensures counted { OnOk result (AreCounted D.view areas.old counts.new.items (length areas.old)) }
     ensures many { OnOk result (length counts.new.items ≡ length areas.old) }
     ensures ready { OnOk result (AreReady areas.old areas.new (length areas.old)) }
+    ensures rest { OnOk result (RestIfNone D.view areas.old areas.new counts.new.items (length areas.old)) }
     ensures read { AreRead D.view areas.old areas.new }
     ensures cause { IfErr result (StopsAt D.view areas.old areas.new counts.new.items) }
 {

@@ -38,4 +38,4 @@ loop-core-preserved g c =
     let here : slice_get c.loop-core.areas c.loop-core.core ≡ Some a = slice_get-get_or c.loop-core.areas c.loop-core.core c.index-areas-core.result below in
     let items = rw (c.unwrap.ensures, c.reserve.ensures.items) at c.push.ensures.items in
     rw items
-    (read_more g.D.Disk.view c.args.areas.now c.loop-core.areas c.loop-core.counts.items c.loop-core.core c.in_ok-count.count a c.scan_one.new.area below here c.loop-core.invariant c.scan_one.ensures.read c.in_ok-count.ensures.ready c.in_ok-count.ensures.count)
+    (read_more g.D.Disk.view c.args.areas.now c.loop-core.areas c.loop-core.counts.items c.loop-core.core c.in_ok-count.count a c.scan_one.new.area below here c.loop-core.invariant c.scan_one.ensures.read c.in_ok-count.ensures.ready c.in_ok-count.ensures.count c.in_ok-count.ensures.rest)
