@@ -8,7 +8,7 @@ use std::alloc::{AllocError, Global};
 use std::process::Abort;
 use std::test::Fail;
 use zj_block::{Blocks, Sizes};
-use zj_dev::{Device, MemDisk, MemShelf, Shelf, Torn};
+use zj_dev::{Device, Disk, MemDisk, MemShelf, Shelf, Torn};
 use zj_home::Home;
 use zj_layout::format;
 
@@ -25,7 +25,7 @@ fn home_bytes(rt: &impl Abort, alloc: Global, blocks: &Blocks) -> Result<Vec<u8>
     let sizes = sizes(rt);
     let bytes = vec![in alloc; 0u8; 40960]?;
     let disk = MemDisk::new(alloc, &bytes, &[], None)?;
-    assert_eq!(rt; zj_dev::Disk::len(&disk), zj_home::home_len(&sizes));
+    assert_eq!(rt; disk.len(), zj_home::home_len(&sizes));
     assert_eq!(rt; blocks.len(), 64);
     assert_eq!(rt; sizes.blocks(), 64);
     match Home::make(alloc, disk, &sizes, blocks) {
@@ -188,7 +188,7 @@ fn mounts_what_shows_a_tree(rt: HostRuntime) -> Result<(), Fail> {
         (
             ("home", &good, &[]),
             ("j0", &none, &[]),
-            ("j1", &none, &[0]),
+            ("j1", &none, &[1]),
             Some(MountFault::DiskFault { device }),
         ),
         (
@@ -200,6 +200,68 @@ fn mounts_what_shows_a_tree(rt: HostRuntime) -> Result<(), Fail> {
     ];
     for (home, first, second, fault) in table {
         assert_eq!(rt; mounting(&rt, alloc, &[home, first, second])?, fault);
+    }
+    Ok(())
+}
+
+/// Home is synced first and then each journal, before a journal is read.
+#[test]
+fn syncs_before_it_reads(rt: HostRuntime) -> Result<(), Fail> {
+    let alloc = rt.alloc();
+    let good = home_bytes(&rt, alloc, &format(alloc, &sizes(&rt))?)?;
+    let mut number = RECORD;
+    number[8] = 5;
+    let bad = journal_bytes(alloc, &number)?;
+    let table: [(Given, Given, Given, Device); 3] = [
+        (
+            ("home", &good, &[1]),
+            ("j0", &bad, &[0]),
+            ("j1", &bad, &[0]),
+            Device::Home,
+        ),
+        (
+            ("home", &good, &[]),
+            ("j0", &bad, &[0]),
+            ("j1", &bad, &[0]),
+            Device::Journal(0),
+        ),
+        (
+            ("home", &good, &[]),
+            ("j0", &bad, &[]),
+            ("j1", &bad, &[0]),
+            Device::Journal(1),
+        ),
+    ];
+    for (home, first, second, device) in table {
+        let fault = mounting(&rt, alloc, &[home, first, second])?;
+        assert_eq!(rt; fault, Some(MountFault::DiskFault { device }));
+    }
+    Ok(())
+}
+
+/// What was pending on a device outlasts a crash from a mount on.
+#[test]
+fn settles_what_is_pending(rt: HostRuntime) -> Result<(), Fail> {
+    let alloc = rt.alloc();
+    let good = home_bytes(&rt, alloc, &format(alloc, &sizes(&rt))?)?;
+    let none = journal_bytes(alloc, &[])?;
+    let mut shelf = MemShelf::new(alloc)?;
+    for (name, bytes) in [("home", &good), ("j0", &none), ("j1", &none)] {
+        let mut disk = MemDisk::new(alloc, bytes, &[], None)?;
+        assert!(rt; disk.len() > 40000);
+        assert!(rt; disk.write(40000, &[7]).is_ok());
+        let (lost, whole) = (disk.image(alloc, Torn::Lost)?, disk.image(alloc, Torn::Whole)?);
+        assert!(rt; lost.as_slice() != whole.as_slice(), "{name}");
+        let _ = shelf.put(name, disk)?;
+    }
+    let mut set = open_all(alloc, &mut shelf).ok().ok_or("opened")?;
+    assert!(rt; mount(alloc, &mut set.home, &mut set.areas).is_ok());
+    assert!(rt; close_all(&mut shelf, set).is_ok());
+    for (name, calls) in [("home", 67), ("j0", 3), ("j1", 3)] {
+        let disk = shelf.take(name).ok_or("closed again")?;
+        assert_eq!(rt; disk.calls(), calls, "a write, a sync and reads of {name}");
+        let (lost, whole) = (disk.image(alloc, Torn::Lost)?, disk.image(alloc, Torn::Whole)?);
+        assert_eq!(rt; lost.as_slice(), whole.as_slice(), "{name}");
     }
     Ok(())
 }
