@@ -146,7 +146,7 @@ module _ {D : Type 0} (view : D → DiskView) where
     used_before new (faults.Damaged (devices.Journal core) place found expected) many cause = (
       (cause.0.0, counted_before cause.0.0 core cause.0.1),
       lift core (λ m. IsDamagedAt view m place found expected) (λ a. IsDamagedAt view a place found expected)
-      (λ a m. bytes_before a m (λ n k tail image. IsDamaged n k image tail place found expected)) cause.1,
+          (λ a m. bytes_before a m (λ n k tail image. IsDamaged n k image tail place found expected)) cause.1,
     )
     used_before new (faults.Damaged devices.Home place found expected) many cause = cause
     used_before new (faults.Unbuilt (devices.Journal core)) many cause = first_before core many cause

@@ -250,7 +250,10 @@ fn settles_what_is_pending(rt: HostRuntime) -> Result<(), Fail> {
         let mut disk = MemDisk::new(alloc, bytes, &[], None)?;
         assert!(rt; disk.len() > 40000);
         assert!(rt; disk.write(40000, &[7]).is_ok());
-        let (lost, whole) = (disk.image(alloc, Torn::Lost)?, disk.image(alloc, Torn::Whole)?);
+        let (lost, whole) = (
+            disk.image(alloc, Torn::Lost)?,
+            disk.image(alloc, Torn::Whole)?,
+        );
         assert!(rt; lost.as_slice() != whole.as_slice(), "{name}");
         let _ = shelf.put(name, disk)?;
     }
@@ -260,7 +263,10 @@ fn settles_what_is_pending(rt: HostRuntime) -> Result<(), Fail> {
     for (name, calls) in [("home", 67), ("j0", 3), ("j1", 3)] {
         let disk = shelf.take(name).ok_or("closed again")?;
         assert_eq!(rt; disk.calls(), calls, "a write, a sync and reads of {name}");
-        let (lost, whole) = (disk.image(alloc, Torn::Lost)?, disk.image(alloc, Torn::Whole)?);
+        let (lost, whole) = (
+            disk.image(alloc, Torn::Lost)?,
+            disk.image(alloc, Torn::Whole)?,
+        );
         assert_eq!(rt; lost.as_slice(), whole.as_slice(), "{name}");
     }
     Ok(())
