@@ -6,7 +6,6 @@ use Rattle.std.proofs.lemmas.Option.{slice_get_within}
 use Rattle.zj_block.specs.Sizes.{Numbers}
 use Rattle.zj_block.specs.declared.numbers.Tail.{Tail}
 use Rattle.zj_dev.specs.Disk.{DiskView, IsSettled, OnlyReads}
-use Rattle.zj_dev.specs.declared.device.Device.{Device}
 use Rattle.zj_dev.specs.declared.device.Device.TheVariants as devices
 use Rattle.zj_dev.proofs.DiskLaws.{continues_refl, continues_trans, each_first, each_then, rose_since}
 use Rattle.zj_home.specs.Super.{Super}
