@@ -1,6 +1,8 @@
 //! Laws of calls over blocks: each is what a call with no effect ensures.
 
-ghost use Rattle.zj_inode.specs.Laws.{FootprintIsWithin, HistoryIsRun, PutsAreOne};
+ghost use Rattle.zj_inode.specs.Laws.{CutIsRun, FootprintIsWithin, HistoryIsRun, PutsAreOne};
+
+use zj_history::laws::cut_is_history;
 
 /// The blocks that a call may take are blocks of the image.
 pub fn footprint_is_within()
@@ -16,3 +18,10 @@ pub fn puts_are_one()
 pub fn history_is_run()
     ensures { HistoryIsRun }
 {}
+
+/// A consistent cut of a history that serves calls is the plain service's run of the calls in it.
+pub fn cut_is_run()
+    ensures { CutIsRun }
+{
+    cut_is_history();
+}
