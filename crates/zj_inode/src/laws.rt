@@ -2,7 +2,7 @@
 
 ghost use Rattle.zj_inode.specs.Laws.{CutIsRun, FootprintIsWithin, HistoryIsRun, PutsAreOne};
 
-use zj_history::laws::cut_is_history;
+use zj_history::laws::{cut_is_history, front_is_legal};
 
 /// The blocks that a call may take are blocks of the image.
 pub fn footprint_is_within()
@@ -17,7 +17,9 @@ pub fn puts_are_one()
 /// A legal history that serves calls is the plain service's run of them.
 pub fn history_is_run()
     ensures { HistoryIsRun }
-{}
+{
+    front_is_legal();
+}
 
 /// A consistent cut of a history that serves calls is the plain service's run of the calls in it.
 pub fn cut_is_run()
