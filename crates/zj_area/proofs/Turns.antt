@@ -27,6 +27,7 @@ pub record SoFar (n : Numbers) (core : ℕ) (old now : DiskView) (tail due : Tai
   pub early : due.number ≤ 2 ^ 62 + 2 ^ 63
   pub calls : now.calls ≤ old.calls + 2 * length found
   pub seen : IfSome first (WasSeen n core old due)
+  pub none : length found ≡ 0 → due ≡ tail
 
 -- how far it is to the end of the area, and once more round it where the record at the start wasn't read
 abbrev pub to_end : Numbers → ℕ → ℕ
@@ -135,4 +136,5 @@ turn n core old now new tail due found first r so_far reads is early counted mos
       early = omega (arith, so_far.few, so_far.many, so_far.begins, early);
       calls = omega (arith, so_far.calls, push, most);
       seen = seen_more n core old due (behind n due r) first r refl so_far.seen there;
+      none = λ empty. absurd (omega (arith, push, empty));
     }

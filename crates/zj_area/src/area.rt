@@ -195,7 +195,7 @@ impl<D: Disk> Area<D> {
     }
 
     /// Reads the records from the tail on, up to the first gate that is not open. It writes nothing. Where
-    /// the end was known and no commit has failed, it stays.
+    /// the end was known and no commit has failed, it stays; else it is the tail where no record was found.
     ///
     /// `Damaged` tells where a gate is open and no record stands that is due there, `DiskFault` that the
     /// device failed, and `NoMemory` that there was none for what was found. Then the area is as it was.
@@ -204,6 +204,7 @@ impl<D: Disk> Area<D> {
         ensures same { self.new ≡ record self.old { device = self.new.device; ready = self.new.ready; end = self.new.end } }
         ensures ready { OnOk result (self.new.ready ≡ true) }
         ensures end { OnOk result (IsKnown (journal_of D.view self.old) → self.new.end ≡ self.old.end) }
+        ensures none { IfOk result (λ found. (IsKnown (journal_of D.view self.old) → ⊥) → length found ≡ 0 → self.new.end ≡ self.old.tail) }
         ensures err { OnErr result (self.new ≡ record self.old { device = self.new.device }) }
         ensures read_only { OnlyReads (D.view self.old.device) (D.view self.new.device) }
         ensures is_disk { IsDisk (D.view self.new.device) }

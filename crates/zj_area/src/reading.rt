@@ -187,6 +187,7 @@ pub fn read_records<D: Disk>(
     ensures holds { IfOk result (λ read. IfSome (D.view d.old).bytes (λ image. Holds sizes.now core image tail read.0 read.1)) }
     ensures place { IfOk result (λ read. IsPlace sizes.now read.1.place) }
     ensures many { IfOk result (λ read. read.1.number ≡ tail.number + length read.0) }
+    ensures none { IfOk result (λ read. length read.0 ≡ 0 → read.1 ≡ tail) }
     ensures few { IfOk result (λ read. length read.0 + (D.view d.old).calls ≤ (D.view d.new).calls) }
     ensures early { IfOk result (λ read. read.1.number ≤ 2 ^ 62 + 2 ^ 63) }
     ensures calls_at_most { IfOk result (λ read. (D.view d.new).calls ≤ (D.view d.old).calls + 2 * length read.0 + 1) }

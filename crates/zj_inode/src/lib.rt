@@ -12,7 +12,8 @@
 //! - `Outcome::Odd`: no state is possible.
 //!
 //! Of lists of calls `laws::history_is_run` says: a legal history whose operations perform calls, of one core or of many, is
-//! the plain service's run of them (`specs/Run.antt`). `laws::footprint_is_within`: what a call may take is in the image.
+//! the plain service's run of them (`specs/Run.antt`). `laws::cut_is_run`: a consistent cut of it is the run of the calls in
+//! the cut. `laws::footprint_is_within`: what a call may take is in the image.
 //!
 //! How a call is put together: each has a function that goes through its steps in the order of its reasons, leaves by `?`
 //! with what stops it (`Stopped`: a block that is needed, a refusal, Odd, or want of memory), and builds new contents as it
