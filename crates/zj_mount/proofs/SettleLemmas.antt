@@ -172,7 +172,7 @@ module _ {D : Type 0} (view : D → DiskView) where
         let below : core < length old = slice_get_within old core a here in
         by (slice_get mid core) (rw here at (synced core)) (settled core below) (rw there at (rest core (omega (arith, below, many))))
       where
-        by : (o : Option (AreaView D)) → IsSomeAnd o (IsSynced view a) → IsSomeAnd o (λ m. IsSettled (view m.device)) → IsSomeAnd o (λ m. RestsIfSettled view m b) → IsAtRest (journal_of view b) []
+        by : (o : Option (AreaView D)) → IsSomeAnd o (IsSynced view a) → IsSomeAnd o (λ m. IsSettled (view m.device)) → IsSomeAnd o (λ m. RestsIfSettled view m b) → IsAtRest (journal_of view b) [] × (b.end ≡ b.tail)
         by None one settles rests = absurd one
         by (Some m) one settles rests = rests (λ known. unknown (known_before a m one known)) settles
 

@@ -34,9 +34,9 @@ HoldsSome view a count = (records : List Record) × (length records ≡ count) �
 abbrev pub AreCounted : {D : Type 0} → (D → DiskView) → List (AreaView D) → List ℕ → ℕ → Type 0
 AreCounted view areas counts many = (core : ℕ) → core < many → IsSomeAnd (slice_get areas core) (λ a. IsSomeAnd (slice_get counts core) (HoldsSome view a))
 
--- where the end of an area was not known and nothing was pending on it, it is at rest with no record
+-- where the end of an area was not known and nothing was pending on it, it is at rest with no record, and ends at its tail
 abbrev pub RestsIfSettled : {D : Type 0} → (D → DiskView) → AreaView D → AreaView D → Type 0
-RestsIfSettled view old new = (IsKnown (journal_of view old) → ⊥) → IsSettled (view old.device) → IsAtRest (journal_of view new) []
+RestsIfSettled view old new = (IsKnown (journal_of view old) → ⊥) → IsSettled (view old.device) → IsAtRest (journal_of view new) [] × (new.end ≡ new.tail)
 
 -- this is so of the first areas, so many
 abbrev pub RestIfSettled : {D : Type 0} → (D → DiskView) → List (AreaView D) → List (AreaView D) → ℕ → Type 0

@@ -20,9 +20,9 @@ pub record Settles (old new : DiskView) : Type 0 where
 abbrev pub AreSettled : {D : Type 0} → (D → DiskView) → List (AreaView D) → List (AreaView D) → Type 0
 AreSettled view old new = (core : ℕ) → MatchOption (slice_get old core) (slice_get new core ≡ None) (λ a. IsSomeAnd (slice_get new core) (λ b. Settles (view a.device) (view b.device)))
 
--- Each journal whose end was not known before is at rest, with no record.
+-- Each journal whose end was not known before is at rest, with no record: it ends at its tail.
 abbrev pub RestEmpty : {D : Type 0} → (D → DiskView) → List (AreaView D) → List (AreaView D) → Type 0
-RestEmpty {D} view old new = (core : ℕ) (a b : AreaView D) → slice_get old core ≡ Some a → slice_get new core ≡ Some b → (IsKnown (journal_of view a) → ⊥) → IsAtRest (journal_of view b) []
+RestEmpty {D} view old new = (core : ℕ) (a b : AreaView D) → slice_get old core ≡ Some a → slice_get new core ≡ Some b → (IsKnown (journal_of view a) → ⊥) → IsAtRest (journal_of view b) [] × (b.end ≡ b.tail)
 
 -- A device failed as it was settled: home, or the journal of a core.
 abbrev pub IsSettleCause : {D : Type 0} → (D → DiskView) → D → D → List (AreaView D) → List (AreaView D) → MountFault → Type 0
