@@ -4,7 +4,8 @@
     examples/run.py PROGRAM
 
 `make` makes an image, and its bytes are compared. A script `examples/NAME.script` is played on such an image, or on one of two cores, and its
-answers have to be those of `examples/NAME.answers`; scripts that are refused tell the place. Then `check` and `play` read images that are whole, cut, overwritten,
+answers have to be those of `examples/NAME.answers`; schedules that commit leave journals of which `check` and `dump` tell what is recovered; scripts
+that are refused tell the place. Then `check` and `play` read images that are whole, cut, overwritten,
 swapped and absent; the answer, the status and the files are compared.
 """
 import glob
@@ -106,12 +107,24 @@ DUMPED = [
     ("one transaction over blocks of zeros", {"home": home(), "j0": GOOD}, refused("notree rule 1 block 1")),
 ]
 
+# Schedules that commit on a new image of two cores: the answers, and what is recovered then, as `check` and `dump` tell it. The first byte of
+# a journal is the gate of its first record: where that isn't open, the record isn't there.
+COMMITTED = [
+    ("two transactions that follow each other", b"0 mkdir /a\n1 mkdir /b\n1 commit\n0 commit\n", "1 0 0 ok\n2 1 1 ok\n3 1 committed 0\n4 0 committed 0\n",
+     found(1, 1, tree="nodes 3 blocks 1\n"), "/ dir 2\n/a dir 0\n/b dir 0\n"),
+    ("one that follows what isn't there", b"0 mkdir /a\n1 mkdir /b\n1 commit\n", "1 0 0 ok\n2 1 1 ok\n3 1 committed 0\n",
+     found(0, 1, kept=(0, 0)), "/ dir 0\n"),
+    ("a core's own last contents", b"0 mkdir /a\n1 mkdir /b\n0 commit\n", "1 0 0 ok\n2 1 1 ok\n3 0 committed 0\n",
+     found(1, 0, tree="nodes 2 blocks 1\n"), "/ dir 1\n/a dir 0\n"),
+    ("nothing committed", b"0 mkdir /a\n1 commit\n", "1 0 0 ok\n2 1 empty\n", found(0, 0), "/ dir 0\n"),
+]
+
 # Where a script is refused: its line and a mark, and what was due.
 REFUSED = [
     (b"0 list /\n0 mkdir a\n", "line 2 column 9 kind 3\n0 mkdir a\n        ^\ndue: a path, as / or /a/b, of at most 16 names, each of at most 26 letters, digits, and . _ -\n"),
     (b"0 list", "line 1 column 7 kind 3\n0 list\n      ^\ndue: a path, as / or /a/b, of at most 16 names, each of at most 26 letters, digits, and . _ -\n"),
     (b"4 list /", "line 1 column 1 kind 1\n4 list /\n^\ndue: a core below the image's count of cores, or in a schedule checkpoint\n"),
-    (b"0 commit\n", "line 1 column 3 kind 2\n0 commit\n  ^\ndue: a call or an act that can stand here, or the end of the line\nnot built yet: fsync, look, commit, sync and checkpoint\n"),
+    (b"0 sync\n", "line 1 column 3 kind 2\n0 sync\n  ^\ndue: a call or an act that can stand here, or the end of the line\nnot built yet: fsync, look, sync and checkpoint\n"),
     (b"# \xff\n0 list /\xff\n", "line 2 column 8 kind 3\n0 list /?\n       ^\ndue: a path, as / or /a/b, of at most 16 names, each of at most 26 letters, digits, and . _ -\n"),
     (b"0 list " + b"/aaaa" * 14 + b"/ 1", "line 1 column 8 kind 3\n0 list " + "/aaaa" * 4 + "\n       ^\ndue: a path, as / or /a/b, of at most 16 names, each of at most 26 letters, digits, and . _ -\n"),
 ]
@@ -176,6 +189,22 @@ def play(program, script):
         return failed + compare(name + ", the files", contents(folder) == made, True)
 
 
+def commit(program, what, lines, answers, checked, dumped):
+    """Plays a schedule that commits, and tells what is recovered; and what is, once the journal of core 0 has no open gate."""
+    with tempfile.TemporaryDirectory() as folder:
+        run(program, folder, "make", "64", "8", "2", "131072")
+        home_before = contents(folder)["home"]
+        failed = compare(what, run(program, folder, "play", lines=lines), (0, answers, ""))
+        failed += compare(what + ", checked", run(program, folder, "check"), checked)
+        failed += compare(what + ", dumped", run(program, folder, "dump"), (0, dumped, ""))
+        after = contents(folder)
+        failed += compare(what + ", home", after["home"] == home_before, True)
+        if checked[1].startswith("j0 from 0 found 1"):
+            write(folder, {"j0": with_byte(after["j0"], 0, 7)})
+            failed += compare(what + ", without core 0's", run(program, folder, "dump"), (0, "/ dir 0\n", ""))
+        return failed
+
+
 def read(program, command, what, files, want):
     """Runs a command on an image that it only reads."""
     with tempfile.TemporaryDirectory() as folder:
@@ -214,13 +243,14 @@ def main(program):
     failed = make(program) + sum(play(program, script) for script in scripts)
     for command, images in (("check", CHECKED), ("dump", DUMPED), ("play", PLAYED)):
         failed += sum(read(program, command, *image) for image in images)
+    failed += sum(commit(program, *schedule) for schedule in COMMITTED)
     failed += sum(refuse(program, *script) for script in REFUSED)
     failed += sum(refuse_sizes(program, *sizes) for sizes in WRONG_SIZES)
     failed += sum(close_output(program, command) for command in ("play", "check", "dump"))
     with tempfile.TemporaryDirectory() as folder:
         os.symlink("home", os.path.join(folder, "home"))
         failed += compare("a home that can't be opened", run(program, folder, "check"), (4, "", "zj: device home\n"))
-    print(f"{len(scripts)} scripts played and {len(REFUSED)} refused, {len(CHECKED) + 1} images checked and {len(PLAYED)} played, {failed} answers differ")
+    print(f"{len(scripts) + len(COMMITTED)} scripts played and {len(REFUSED)} refused, {len(CHECKED) + 1} images checked and {len(PLAYED)} played, {failed} answers differ")
     return failed != 0
 
 

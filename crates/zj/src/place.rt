@@ -11,7 +11,7 @@ const IN_FRONT: usize = 60;
 const FROM_COLUMN: usize = 20;
 
 /// The acts that the language has and the program refuses.
-const UNBUILT: &str = "not built yet: fsync, look, commit, sync and checkpoint";
+const UNBUILT: &str = "not built yet: fsync, look, sync and checkpoint";
 
 /// Tells on standard error the line of a script that is refused, with a mark under the column, and what was due there: where
 /// that is an act, also which acts aren't built yet. A long line is shown in part, and each byte that isn't printed as a `?`.

@@ -57,10 +57,20 @@ A call can also be made step by step, by a handle, of which a core has one at mo
 A block that a handle took is no other core's. A call, take or stop that needs one
 is answered by busy BLOCK CORE, the block and the core that has it: nothing was done,
 and a later line may try again. An act that doesn't suit its core is answered by
-order, and does nothing: a call or begin where a handle is open, or take, stop or
-drop where none is. What is open when the script ends is dropped.
+order, and does nothing: a call, begin or commit where a handle is open, or take,
+stop or drop where none is. What is open when the script ends is dropped.
+
+The calls of a core gather in its running transaction, also those that read or are
+refused, until it is committed:
+  0 commit            writes the running transaction to the core's own journal;
+                      answered by committed NUMBER, or by empty where it has no call
+A call or stop is answered by txfull HAVE MORE where the transaction would have more
+than 48 blocks: commit first. A call or begin is answered by full NEED FREE where the
+transaction is empty and a longest record has no room in the journal. Where the file
+of a journal fails, the commit is answered by fault and its name, the status is 4 at
+the end, and that core answers failed CORE from then on; the other cores go on.
 The language has these acts besides, which are not built yet and refused: fsync PATH,
-look, commit, sync, and checkpoint alone.
+look, sync, and checkpoint alone.
 
 Where a line is refused no call runs, and standard error tells the place, as
   zj: script line 2 column 3 kind 2
@@ -68,8 +78,11 @@ and then the line, a mark under the column, and what was due there.
 
 play starts from the tree that home holds, and prints one line for each act: LINE CORE
 and its answer, that of a call TICKET REPLY: its place among the calls that were made,
-from 0, and what it found. It writes no file: what the calls did is gone when it ends.
-An image whose journals hold a transaction is refused as not built yet, with status 3.
+from 0, and what it found. It writes the journals alone, and only where a line commits:
+what was not committed is gone when it ends. Whatever a crash leaves of the files, what
+is recovered is a tree that the calls could have made: check and dump tell it.
+An image whose journals hold a transaction is refused as not built yet, with status 3:
+it can be checked and dumped, and not played again.
 
 Example:
   zj make
@@ -85,6 +98,15 @@ prints
   3 1 busy 8 0
   4 0 0 ok
   5 1 1 ok
+and on two cores whose transactions follow each other
+  printf '0 mkdir /a\\n1 mkdir /b\\n1 commit\\n0 commit\\n' | zj play
+prints
+  1 0 0 ok
+  2 1 1 ok
+  3 1 committed 0
+  4 0 committed 0
+and zj check then tells that both are kept. Without the last line none is: core 1's
+transaction follows core 0's, which no journal holds.
 
 check
 It reads the image and changes nothing. It prints one line for each journal: where
