@@ -27,7 +27,7 @@ mod handles;
 mod shows;
 mod steps;
 
-pub use fault::{BeginFault, CallFault, StopFault, TakeFault};
+pub use fault::{BeginFault, CallFault, CommitFault, StopFault, TakeFault};
 pub use handles::{Core, CoreRefused, Done};
 pub use shows::ShowsTree;
 
