@@ -4,7 +4,9 @@ pub mod Going
 pub mod Knowing
 pub mod Meeting
 pub mod Needing
+pub mod Noting
 pub mod Resting
+pub mod Running
 pub mod Stopping
 pub mod Stored
 pub mod Taking

@@ -16,14 +16,15 @@ use Rattle.zj_turns.specs.Passes.{CacheParameters, PassState, SomeStateAgrees, h
 use Rattle.zj_turns.proofs.Maps.{get_here, get_else}
 use Rattle.zj_turns.proofs.Again.{insert_again, remove_new}
 use Rattle.zj_core.proofs.Knowing.{has_now, knowing_again, knowing_same, mine_now}
-use Rattle.zj_core.specs.Handle.{HasTaken, IsPartOfSome, IsRead, content_held, root_block}
+use Rattle.zj_tx.specs.Running.{HasNoted}
+use Rattle.zj_core.specs.Handle.{HasTaken, IsPartOfSome, IsRead, content_held, root_block, writers_held}
 use Rattle.zj_core.specs.Steps.{IsFree, Knows, TakesMore}
 
 pub holding_again : (k : Known) (b : ℕ) (h h' : Hold) → holding (holding k b h) b h' ≡ holding k b h'
 holding_again k b h h' = ap (λ m. record { operations = k.operations; held = m; drawn = k.drawn; ticket = k.ticket; number = k.number }) (insert_again k.held b h h')
 
 -- what is not under a number is not held
-pub not_held : (sizes : Numbers) (p : PassState) (found : Entries) → HasTaken sizes p found → (b : ℕ) → content_under found b ≡ None → finmap.get (mine p).held b ≡ None
+pub not_held : (sizes : Numbers) (p : PassState) (found : Entries) {follows : List ℕ} → HasTaken sizes p found follows → (b : ℕ) → content_under found b ≡ None → finmap.get (mine p).held b ≡ None
 not_held sizes p found has b none = by (finmap.get (mine p).held b) (sym (has.same b) ∙ none)
   where
     by : (o : Option Hold) → option_map (λ (h : Hold). take 64 h.loaded) o ≡ None → o ≡ None
@@ -58,7 +59,7 @@ pub taken_clear : (p q : PassState) (b : ℕ) → q ≡ now_knowing p (holding (
 taken_clear p q b e clear = ap (λ (x : PassState). (mine x).drawn) e ∙ ap (λ (k : Known). k.drawn) (mine_now p (holding (mine p) b just_taken)) ∙ clear
 
 module _ (sizes : Numbers) (p r : PassState) (found found' : Entries) (b : ℕ) (content : List ℕ) (stamp : ℕ) (writer : Option Writer)
-    (has : HasTaken sizes p found) (fresh : content_under found b ≡ None) (long : length content ≡ 64)
+    {follows : List ℕ} (has : HasTaken sizes p found follows) (fresh : content_under found b ≡ None) (long : length content ≡ 64)
     (is : r ≡ now_knowing p (holding (mine p) b (loaded_as (content ++ seal_of stamp writer)))) where
   abbrev words : List ℕ
   words = content ++ seal_of stamp writer
@@ -152,11 +153,12 @@ module _ (sizes : Numbers) (p r : PassState) (found found' : Entries) (b : ℕ) 
         agrees c x None e q = absurd cc
         agrees c x (Some h) e q = some.agrees c h e (read_now c h e).loaded ∙ q
 
-    pub has_more : (content_under found (root_block sizes) ≡ None → b ≡ root_block sizes) → SomeStateAgrees (ShowsSome sizes) (mine r) → HasTaken sizes r found'
-    has_more first some = record {
+    pub has_more : (content_under found (root_block sizes) ≡ None → b ≡ root_block sizes) → SomeStateAgrees (ShowsSome sizes) (mine r) → (follows' : List ℕ) → HasNoted follows' (writers_held (mine r)) → HasTaken sizes r found' follows'
+    has_more first some follows' noted = record {
       known = has_now p r (holding (mine p) b (loaded_as words)) is;
       clear = ap (λ (k : Known). k.drawn) mine_is ∙ has.clear;
       read = read_now;
       same = same_now;
       begun = inr (root_now first, part_now some);
+      noted = noted;
     }

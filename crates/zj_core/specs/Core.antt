@@ -12,6 +12,7 @@ use Rattle.zj_history.specs.Transactions.{operations_of}
 use Rattle.zj_tx.specs.Frozen.{image_in}
 use Rattle.zj_tx.specs.Running.{Keeps, Transaction, new_count}
 use Rattle.zj_tree.specs.declared.call.Call.{Call}
+use Rattle.zj_tree.specs.declared.call.Reply.{Reply}
 use Rattle.zj_dirs.specs.Possible.{Always}
 use Rattle.zj_inode.specs.Footprint.{Foot}
 use Rattle.zj_inode.specs.Performs.{Performs}

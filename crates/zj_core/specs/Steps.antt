@@ -8,10 +8,8 @@ use Rattle.zj_tree.specs.Tree.{FileTree}
 use Rattle.zj_layout.specs.Image.{State}
 use Rattle.zj_layout.specs.Shows.{ShowsSome, put_blocks}
 use Rattle.zj_dirs.specs.Possible.{IsPossible}
-use Rattle.zj_inode.specs.Run.{contents_found}
-use Rattle.zj_turns.specs.Views.{Hold, Known, hold_in, holding, giving, stored_as}
+use Rattle.zj_turns.specs.Views.{Hold, Known, found_in, hold_in, holding, giving, stored_as}
 use Rattle.zj_turns.specs.Passes.{CacheParameters, KnowsHistory, PassState, holds, mine, now_knowing}
-use Rattle.zj_core.specs.Handle.{entries_held}
 use Rattle.zj_tx.specs.declared.fault.RoomFault.{RoomFault}
 use Rattle.zj_tx.specs.declared.fault.RoomFault.TheVariants as rooms
 use Rattle.zj_core.specs.declared.fault.TakeFault.{TakeFault}
@@ -103,7 +101,7 @@ pub record Draws (cache : CacheParameters) (old new : PassState) (written : Cont
   pub ticket_is : operation.ticket ≡ ticket
   pub core_is : operation.core ≡ old.core
   pub number_is : operation.number ≡ number
-  pub found : contents_found operation ≡ entries_held (mine old)
+  pub found : operation.found ≡ found_in (mine old).held
   pub written_is : operation.written ≡ written
   pub pass : new ≡ now_knowing old (with_operation (mine old) operation)
   pub knows : Knows cache new

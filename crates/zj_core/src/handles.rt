@@ -1,6 +1,6 @@
 //! A core and its handle.
 
-ghost use Rattle.std.specs.Prelude.{◌≡◌, ◌≢◌, IfErr, IfNone, IfOk, IfSome, IsSome, None, OnErr, OnOk, Some, is_some, length, true, false};
+ghost use Rattle.std.specs.Prelude.{[], ◌≡◌, ◌≢◌, IfErr, IfNone, IfOk, IfSome, IsSome, None, OnErr, OnOk, Some, is_some, length, true, false};
 ghost use Rattle.std.specs.FinMap as finmap;
 ghost use Rattle.zj_turns.specs.Passes.{IsIdle, IsPeer, left_of, mine, now_knowing, with_away, with_view};
 ghost use Rattle.zj_turns.specs.Views.{joined, without};
@@ -11,6 +11,7 @@ ghost use Rattle.zj_core.specs.Core.{IsBeginCause, IsCallCause, IsOf, IsOneMore,
 ghost use Rattle.zj_core.specs.Handle.{TakesFor};
 ghost use Rattle.zj_core.specs.Steps.{TakesMore, emptied};
 
+use crate::committing::write_record;
 use crate::fault::{BeginFault, CallFault, CommitFault, StopFault, TakeFault};
 use crate::shows::ShowsTree;
 use crate::steps::{Handle, give_all, stop_handle, take_next};
@@ -22,6 +23,7 @@ use zj_dev::Disk;
 use zj_tree::{Call, Reply};
 use zj_turns::{Cache, Pass};
 use zj_tx::Running;
+use zj_tx::laws::{noted_are_bounds, sealed_is_frozen};
 
 /// What a call was answered that entered the history.
 #[derive(Debug, PartialEq, Eq, Drop)]
@@ -85,6 +87,8 @@ impl<D: Disk> Core<D> {
         ensures ok { IfOk result (λ core. core ≡ record { pass = pass; area = area; sizes = sizes.now; begun = None; running = empty_transaction pass.core sizes.now.cores area.end.number }) }
         ensures err { IfErr result (λ refused. (refused.pass ≡ pass) × (refused.area ≡ area)) }
     {
+        noted_are_bounds();
+        sealed_is_frozen();
         let running = Running::new(alloc, area.core(), sizes.cores(), area.end().number);
         Ok(Core {
             alloc,
@@ -146,6 +150,27 @@ impl<D: Disk> Core<D> {
         self.area.failed()
     }
 
+    /// Refuses where no handle may be begun.
+    fn may_begin(&self) -> Result<(), BeginFault>
+        ensures may { OnOk result (MayBegin self.now) }
+        ensures cause { IfErr result (IsBeginCause self.now) }
+    {
+        if self.area.failed() {
+            return Err(BeginFault::Failed {
+                core: self.pass.core(),
+            });
+        }
+        if self.pass.left() == 0 {
+            return Err(BeginFault::Spent {
+                drawn: u64::from(u32::MAX),
+            });
+        }
+        if self.running.handles() > 0 {
+            return Ok(());
+        }
+        Ok(self.area.fits_one()?)
+    }
+
     /// Begins a handle for a call. It takes no block yet.
     ///
     /// `Failed` comes exactly where a commit of the core has failed; else `Spent` exactly where it has no draw left; else `JournalFull`
@@ -158,19 +183,7 @@ impl<D: Disk> Core<D> {
         ensures cause { IfErr result (IsBeginCause self.old) }
         ensures err { OnErr result (self.new ≡ self.old) }
     {
-        if self.area.failed() {
-            return Err(BeginFault::Failed {
-                core: self.pass.core(),
-            });
-        }
-        if self.pass.left() == 0 {
-            return Err(BeginFault::Spent {
-                drawn: u64::from(u32::MAX),
-            });
-        }
-        if self.running.handles() == 0 {
-            self.area.fits_one()?;
-        }
+        self.may_begin()?;
         self.handle = Some(Handle::new(self.alloc, call)?);
         Ok(())
     }
@@ -213,18 +226,22 @@ impl<D: Disk> Core<D> {
         let Some(mut handle) = self.handle.take() else {
             unreachable!()
         };
-        let stopped = stop_handle(
+        noted_are_bounds();
+        let _end = self.area.end();
+        match stop_handle(
             self.alloc,
             cache,
             &self.sizes,
             &mut self.pass,
             &mut self.running,
             &mut handle,
-        );
-        if stopped.is_err() {
-            self.handle = Some(handle);
+        ) {
+            Ok(done) => Ok(done),
+            Err(fault) => {
+                self.handle = Some(handle);
+                Err(fault)
+            }
         }
-        stopped
     }
 
     /// Gives the blocks of the open handle back, as they were. No handle is open then. It takes no memory.
@@ -233,6 +250,7 @@ impl<D: Disk> Core<D> {
         requires open { IsSome self.old.begun }
         ensures { self.new ≡ record self.old { pass = now_knowing self.old.pass (emptied (mine self.old.pass)); begun = None } }
     {
+        noted_are_bounds();
         if let Some(handle) = self.handle.take() {
             give_all(cache, &mut self.pass, &handle.taken);
         }
@@ -305,9 +323,10 @@ impl<D: Disk> Core<D> {
         if self.running.handles() == 0 {
             return Err(CommitFault::Empty);
         }
+        sealed_is_frozen();
+        let _journal = (self.area.core(), self.area.end());
         let sealed = self.running.seal();
-        self.area.lay(&sealed)?;
-        Ok(self.area.open_gate()?)
+        Ok(write_record(&mut self.area, &sealed)?)
     }
 
     /// The pass and the journal, once no handle is open. What runs uncommitted is dropped.

@@ -22,6 +22,7 @@
 //! No call makes a device call, and none waits: where another core holds a block the answer is `Busy`.
 #![tactic(auto)]
 
+mod committing;
 mod fault;
 mod handles;
 mod shows;

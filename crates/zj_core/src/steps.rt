@@ -22,7 +22,9 @@ use zj_block::{Block, BlockNo, Sizes, Taken, Writer, Written};
 use zj_inode::laws::puts_are_one;
 use zj_inode::{Outcome, perform};
 use zj_tree::{Call, Reply};
+use zj_turns::laws::loaded_is_found;
 use zj_turns::{Cache, Pass};
+use zj_tx::laws::sealed_is_frozen;
 use zj_tx::{Follows, RoomFault, Running};
 
 /// An open handle: the call that it is for, the blocks that it has taken, and the transactions that last wrote these.
@@ -87,6 +89,9 @@ pub(crate) fn take_block(
             holder: held.holder,
         });
     }
+    // The cache has at most 64 cores.
+    let _cores = cache.cores();
+    loaded_is_found();
     let mut content = Block::zero();
     let (_stamp, writer) = cache.load(pass, block, &mut content);
     match taken.add(block, &content) {
@@ -203,7 +208,7 @@ fn enter(
     ensures running { OnErr result (running.new ≡ running.old) }
 {
     running.make_room(written)?;
-    let ticket = finish(cache, pass, &handle.taken, written, running.number());
+    let ticket = finish(cache, pass, handle, written, running.number());
     running.add(ticket, written, &handle.follows);
     Ok(ticket)
 }
@@ -236,6 +241,7 @@ pub(crate) fn stop_handle(
     ensures running { OnErr result (running.new ≡ running.old) }
 {
     let (reply, written) = take_all(alloc, cache, sizes, pass, handle)?;
+    sealed_is_frozen();
     let ticket = enter(cache, pass, running, handle, &written)?;
     Ok(Done { ticket, reply })
 }
@@ -275,23 +281,24 @@ pub(crate) fn give_all(cache: &Cache<ShowsTree>, pass: &mut Pass<ShowsTree>, tak
 pub(crate) fn finish(
     cache: &Cache<ShowsTree>,
     pass: &mut Pass<ShowsTree>,
-    taken: &Taken,
+    handle: &Handle,
     written: &Written,
     number: u64,
 ) -> u64
     requires active { IsActive cache.now pass.old }
-    requires has { HasTaken cache.now.sizes pass.old taken.now }
-    requires some { taken.now ≢ [] }
+    requires has { HasTaken cache.now.sizes pass.old handle.now.taken handle.now.follows }
+    requires some { handle.now.taken ≢ [] }
     requires left { left_of pass.old ≢ 0 }
     requires small { number < 2 ^ 64 - 1 }
-    requires within { (b : ℕ) → finmap.contains_key written.now b ≡ true → content_under taken.now b ≢ None }
-    requires keeps { KeepsTree cache.now.sizes taken.now written.now }
-    ensures { Draws cache.now pass.old pass.new written.now number result }
+    requires within { (b : ℕ) → finmap.contains_key written.now b ≡ true → content_under handle.now.taken b ≢ None }
+    requires keeps { KeepsTree cache.now.sizes handle.now.taken written.now }
+    ensures draws { Draws cache.now pass.old pass.new written.now number result }
+    ensures ticket { result < 2 ^ 38 }
 {
     puts_are_one();
     let _contents = written.len();
     store_all(cache, pass, written);
     let ticket = cache.draw(pass, number);
-    give_all(cache, pass, taken);
+    give_all(cache, pass, &handle.taken);
     ticket
 }
