@@ -1,3 +1,4 @@
+pub mod Committed
 pub mod Finished
 pub mod Given
 pub mod Going

@@ -36,7 +36,7 @@ module _ (p q : PassState) (core : q.core ≡ p.core) (same : finmap.get q.view.
         has = taken_same sizes (taken_by handle) (noted_by handle) keeps.has;
         may = λ some. may_on p q area sizes handle handle running core operations (keeps.may some);
         runs = runs_on p q area sizes handle handle running core operations keeps.runs;
-        journal = journal_on p q area sizes handle handle running core keeps.journal;
+        journal = journal_on p q area sizes handle handle running running core keeps.journal;
       }
 
 -- passes that are peers, under other names

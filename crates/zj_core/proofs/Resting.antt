@@ -1,28 +1,33 @@
 -- What a core keeps: it is made, it rests between two calls, and its handle is dropped.
-use Rattle.std.proofs.Common.{◌≡◌, ◌≢◌, inl, ⊎_elim, ℕ, true, false, true≢false, cond, is_some, List, [], ◌∷◌, take, Option, Some, None, IsSome, refl, sym, ap, ◌∙◌, subst}
+use Rattle.std.proofs.Common.{◌≡◌, ◌≢◌, inl, ⊎_elim, ℕ, true, false, true≢false, cond, is_some, List, [], ◌∷◌, map, take, Option, Some, None, IsSome, refl, sym, ap, ◌∙◌, subst}
+use Rattle.std.specs.List.{filter_map}
+use Rattle.std.proofs.lemmas.List.{nil_from_length}
 use Rattle.std.specs.Option.{option_map}
 use Rattle.std.specs.Ordering.{nat_cmp}
 use Rattle.std.specs.FinMap as finmap
 use Rattle.zj_block.specs.Lists.{Entries, content_under}
 use Rattle.zj_block.specs.Numbers.{zero_bounds}
 use Rattle.zj_block.specs.Sizes.{Numbers}
+use Rattle.zj_block.specs.declared.numbers.Writer.{Writer}
+use Rattle.zj_history.specs.Operation.{FoundBlock}
 use Rattle.zj_area.specs.Journal.{AreaView}
 use Rattle.zj_layout.proofs.Follow.{none_some}
 use Rattle.zj_tx.specs.Laws.{NoneNoted, NothingKept}
 use Rattle.zj_tx.specs.Running.{HasNoted, Transaction, empty_transaction}
-use Rattle.zj_turns.specs.Views.{Has, Hold, Known}
-use Rattle.zj_turns.specs.Passes.{IsIdle, PassState, holds, mine, now_knowing}
+use Rattle.zj_turns.specs.Views.{Has, Hold, Known, found_in, found_of}
+use Rattle.zj_turns.specs.Passes.{CacheParameters, IsIdle, PassState, holds, mine, now_knowing}
 use Rattle.zj_turns.proofs.Lone.{lone_is}
 use Rattle.zj_turns.proofs.Maps.{get_here}
 use Rattle.zj_core.specs.declared.steps.Handle.{Handle}
-use Rattle.zj_core.specs.Core.{CoreState, HasJournal, IsCore, IsReady, IsSteady, Joins, IsOneMore, Runs, noted_by, taken_by}
+use Rattle.zj_core.specs.Core.{CoreState, HasJournal, IsCore, IsReady, IsSteady, IsOneMore, Joins, Performed, Runs, noted_by, taken_by}
 use Rattle.zj_core.specs.Handle.{HasTaken, IsPartOfSome, entries_held, root_block, writers_held}
-use Rattle.zj_core.specs.Steps.{TakesMore, emptied, given_back}
+use Rattle.zj_core.specs.Steps.{emptied, given_back, with_operation}
+use Rattle.zj_core.specs.declared.handles.Done.{Done}
 use Rattle.zj_core.proofs.Finished.{root_held}
 use Rattle.zj_core.proofs.Given.{given_clear, given_get, given_number, given_operations, given_ticket}
 use Rattle.zj_core.proofs.Knowing.{has_now, mine_is, none_there}
 use Rattle.zj_core.proofs.Needing.{held_under, part_same}
-use Rattle.zj_core.proofs.Running.{journal_on, may_on, runs_none, runs_on, shown}
+use Rattle.zj_core.proofs.Running.{journal_on, may_on, runs_joined, runs_none, runs_on, shown}
 use Rattle.zj_core.proofs.Taking.{not_held}
 
 -- a core that holds nothing has taken nothing
@@ -33,14 +38,15 @@ none_taken sizes p none_noted known clear empty = record {
   read = λ b h at. absurd (none_some (sym (none b) ∙ at));
   same = λ b. ap (option_map (λ (h : Hold). take 64 h.loaded)) (sym (none b));
   begun = inl refl;
-  noted = subst (λ (k : Known). HasNoted zero_bounds (writers_held k)) (sym held_none) none_noted;
+  noted = subst (λ (ws : List Writer). HasNoted zero_bounds ws) (sym no_writers) none_noted;
 }
   where
     none : (b : ℕ) → finmap.get (mine p).held b ≡ None
     none b = ap (λ m. finmap.get m b) empty ∙ finmap.get-empty {X = Hold} nat_cmp b
 
-    held_none : mine p ≡ record { operations = (mine p).operations; held = finmap.empty; drawn = (mine p).drawn; ticket = (mine p).ticket; number = (mine p).number }
-    held_none = λ i. record { operations = (mine p).operations; held = empty i; drawn = (mine p).drawn; ticket = (mine p).ticket; number = (mine p).number }
+    no_writers : writers_held (mine p) ≡ []
+    no_writers = ap (λ (m : finmap.FinMap nat_cmp Hold). filter_map (λ (f : FoundBlock). f.writer) (found_in m)) empty
+        ∙ ap (λ (es : List (ℕ × Hold)). filter_map (λ (f : FoundBlock). f.writer) (map (λ (e : ℕ × Hold). found_of e.0 e.1) es)) (nil_from_length (finmap.entries (finmap.empty {X = Hold} {R = nat_cmp})) (sym (finmap.len-entries (finmap.empty {X = Hold} {R = nat_cmp})) ∙ finmap.len-empty nat_cmp Hold))
 
 -- ---- a core is made
 
@@ -145,7 +151,7 @@ core_dropped p q area sizes handle after running none_noted keeps is closed =
     let core = ap (λ (x : PassState). x.core) is in
     core_emptied p q area sizes after running (emptied (mine p)) none_noted is refl refl closed
     (runs_on p q area sizes handle None running core (ap (λ (k : Known). k.operations) (mine_is p q (emptied (mine p)) is)) keeps.runs)
-    (journal_on p q area sizes handle None running core keeps.journal)
+    (journal_on p q area sizes handle None running running core keeps.journal)
 
 pub shows_dropped : {D : Type 0} (p q : PassState) (area : AreaView D) (sizes : Numbers) (handle after : Option Handle) (running : Transaction) (c : CoreState D) → shown p area sizes handle running ≡ c → q ≡ now_knowing p (emptied (mine p)) → after ≡ None
     → shown q area sizes after running ≡ record { pass = now_knowing c.pass (emptied (mine c.pass)); area = c.area; sizes = c.sizes; begun = None; running = c.running }
@@ -157,13 +163,12 @@ shows_dropped {D} p q area sizes handle after running c is drops closed =
 pub has_opened : (sizes : Numbers) (p : PassState) (handle : Option Handle) (h : Handle) → Some h ≡ handle → HasTaken sizes p (taken_by handle) (noted_by handle) → HasTaken sizes p h.taken h.follows
 has_opened sizes p handle h is has = subst (λ (o : Option Handle). HasTaken sizes p (taken_by o) (noted_by o)) (sym is) has
 
--- ---- its handle takes blocks
+-- ---- its handle is stopped
 
-pub core_taken : {D : Type 0} (p q : PassState) (area : AreaView D) (sizes : Numbers) (handle after : Option Handle) (running : Transaction) (h : Handle) → IsCore (shown p area sizes handle running) handle → IsSome handle → q.core ≡ p.core → (mine q).operations ≡ (mine p).operations
-    → HasTaken sizes q h.taken h.follows → after ≡ Some h → IsCore (shown q area sizes after running) after
-core_taken {D} p q area sizes handle after running h keeps some core operations has is = subst (λ (o : Option Handle). IsCore {D = D} (shown q area sizes o running) o) (sym is) (record {
-  has = has;
-  may = λ _. may_on p q area sizes handle (Some h) running core operations (keeps.may some);
-  runs = runs_on p q area sizes handle (Some h) running core operations keeps.runs;
-  journal = journal_on p q area sizes handle (Some h) running core keeps.journal;
-})
+pub core_stopped : {D : Type 0} (cache : CacheParameters) (p q : PassState) (area : AreaView D) (sizes : Numbers) (handle after : Option Handle) (old new : Transaction) (h : Handle) (done : Done) → NoneNoted → IsCore (shown p area sizes handle old) handle → Some h ≡ handle
+    → Performed cache sizes old.number p q h.call done → IsOneMore old new → Joins sizes old new p q → after ≡ None → IsCore (shown q area sizes after new) after
+core_stopped cache p q area sizes handle after old new h done none_noted keeps opened performed one joins closed =
+    let core = ap (λ (x : PassState). x.core) performed.pass in
+    core_emptied p q area sizes after new (with_operation (mine p) performed.operation) none_noted performed.pass refl refl closed
+    (runs_joined p q area sizes handle None old new joins one core keeps.runs (keeps.may (subst (λ (o : Option Handle). IsSome o) opened refl)))
+    (journal_on p q area sizes handle None old new core keeps.journal)

@@ -26,10 +26,10 @@ shown p area sizes handle running = record { pass = p; area = area; sizes = size
 
 -- ---- the pass changes, and knows the same operations of its core
 
-module _ {D : Type 0} (p q : PassState) (area : AreaView D) (sizes : Numbers) (handle after : Option Handle) (running : Transaction) (core : q.core ≡ p.core) where
-  pub journal_on : HasJournal (shown p area sizes handle running) → HasJournal (shown q area sizes after running)
-  journal_on journal = record { core = journal.core ∙ sym core; sizes_are = journal.sizes_are; ready = journal.ready; empty = journal.empty }
+pub journal_on : {D : Type 0} (p q : PassState) (area : AreaView D) (sizes : Numbers) (handle after : Option Handle) (running next : Transaction) → q.core ≡ p.core → HasJournal (shown p area sizes handle running) → HasJournal (shown q area sizes after next)
+journal_on p q area sizes handle after running next core journal = record { core = journal.core ∙ sym core; sizes_are = journal.sizes_are; ready = journal.ready; empty = journal.empty }
 
+module _ {D : Type 0} (p q : PassState) (area : AreaView D) (sizes : Numbers) (handle after : Option Handle) (running : Transaction) (core : q.core ≡ p.core) where
   module _ (operations : (mine q).operations ≡ (mine p).operations) where
     pub may_on : MayBegin (shown p area sizes handle running) → MayBegin (shown q area sizes after running)
     may_on may = record { sound = may.sound; left = λ none. may.left (ap (λ (l : List Operation). 4294967295 - length l) (sym operations) ∙ none); fits = may.fits }
