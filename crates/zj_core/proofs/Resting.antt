@@ -27,7 +27,7 @@ use Rattle.zj_core.proofs.Finished.{root_held}
 use Rattle.zj_core.proofs.Given.{given_clear, given_get, given_number, given_operations, given_ticket}
 use Rattle.zj_core.proofs.Knowing.{has_now, mine_is, none_there}
 use Rattle.zj_core.proofs.Needing.{held_under, part_same}
-use Rattle.zj_core.proofs.Running.{journal_on, may_on, runs_joined, runs_none, runs_on, shown}
+use Rattle.zj_core.proofs.Running.{journal_on, runs_joined, runs_none, runs_on, shown}
 use Rattle.zj_core.proofs.Taking.{not_held}
 
 -- a core that holds nothing has taken nothing

@@ -1,9 +1,9 @@
 -- A handle that is stopped, and a call that is begun and stopped at once.
-use Rattle.std.proofs.Common.{◌≡◌, ◌≢◌, ◌⊎◌, inl, inr, ℕ, suc, ◌+◌, ◌-◌, ◌^◌, ◌<◌, ◌≤◌, min, ◌&&◌, Bool, true, false, true≢false, T, cond, is_some, List, [], ◌∷◌, ◌++◌, length, map, Option, Some, None, IfSome, IsSome, refl, sym, ap, ◌∙◌, subst, arith}
-use Rattle.std.specs.List.{count_by, filter_map}
+use Rattle.std.proofs.Common.{◌≡◌, ◌≢◌, ◌⊎◌, inl, inr, ℕ, ◌+◌, ◌<◌, ◌≤◌, ◌&&◌, Bool, true, false, true≢false, T, cond, is_some, List, [], ◌∷◌, ◌++◌, length, map, Option, Some, None, IfSome, IsSome, refl, sym, ap, ◌∙◌, subst, arith}
+use Rattle.std.specs.List.{filter_map}
 use Rattle.std.specs.Option.{option_map, option_or}
 use Rattle.std.specs.Ordering.{nat_cmp, eq_by_cmp, is_lt}
-use Rattle.std.specs.Prelude.{is_none, slice_get}
+use Rattle.std.specs.Prelude.{is_none}
 use Rattle.std.specs.FinMap.Entries.{below_all}
 use Rattle.std.proofs.lemmas.Bool.Decides.{nat_tests}
 use Rattle.std.proofs.lemmas.List.Sums.{count_by-le-length}
@@ -25,12 +25,12 @@ use Rattle.zj_inode.specs.Performs.{Performs}
 use Rattle.zj_inode.specs.Run.{contents_found}
 use Rattle.zj_tx.specs.Frozen.{image_in}
 use Rattle.zj_tx.specs.Laws.{KeepsOneMore}
-use Rattle.zj_tx.specs.Running.{HasNoted, IsAdded, IsRoomCause, Keeps, Transaction, new_count, stamped}
+use Rattle.zj_tx.specs.Running.{HasNoted, IsAdded, IsRoomCause, Transaction, new_count, stamped}
 use Rattle.zj_tx.specs.declared.fault.RoomFault.{RoomFault}
 use Rattle.zj_tx.specs.declared.fault.RoomFault.TheVariants as rooms
 use Rattle.zj_tx.specs.declared.part.Part.{Part}
 use Rattle.zj_turns.specs.Views.{Has}
-use Rattle.zj_turns.specs.Passes.{CacheParameters, PassState, holds, left_of, mine, now_knowing}
+use Rattle.zj_turns.specs.Passes.{CacheParameters, PassState, holds, mine, now_knowing}
 use Rattle.zj_core.specs.declared.fault.BeginFault.{BeginFault}
 use Rattle.zj_core.specs.declared.fault.BeginFault.TheVariants as begins
 use Rattle.zj_core.specs.declared.fault.CallFault.{CallFault}
@@ -38,9 +38,8 @@ use Rattle.zj_core.specs.declared.fault.StopFault.{StopFault}
 use Rattle.zj_core.specs.declared.fault.StopFault.TheVariants as stops
 use Rattle.zj_core.specs.declared.fault.TakeFault.{TakeFault}
 use Rattle.zj_core.specs.declared.fault.TakeFault.TheVariants as takes
-use Rattle.zj_core.specs.declared.handles.Done.{Done}
 use Rattle.zj_core.specs.declared.steps.Handle.{Handle}
-use Rattle.zj_core.specs.Core.{CoreState, HasNoRoom, IsBeginCause, IsCallCause, IsCore, IsStopCause, IsTakeCause, Joins, MayBegin, Performed}
+use Rattle.zj_core.specs.Core.{CoreState, IsBeginCause, IsCallCause, IsCore, IsStopCause, IsTakeCause, Joins, MayBegin, Performed}
 use Rattle.zj_core.specs.Handle.{HasTaken, IsBegun, IsPartOfSome, TakesFor, entries_held, root_block}
 use Rattle.zj_core.specs.Steps.{Draws, KeepsTree, TakesMore, emptied, roomless_by, stopped_by, unbegun_by, unstopped_by, with_operation}
 use Rattle.zj_core.proofs.Finished.{found_entries, taken_held}

@@ -1,5 +1,5 @@
 -- What a commit does, at each moment of its device calls.
-use Rattle.std.specs.Prelude.{◌≡◌, ◌≢◌, ◌⊎◌, ℕ, ◌+◌, true, false, List, [], ◌∷◌, ◌++◌}
+use Rattle.std.specs.Prelude.{◌≡◌, ◌≢◌, ◌⊎◌, ◌+◌, true, false, List, [], ◌∷◌, ◌++◌}
 use Rattle.zj_dev.specs.Fault.{Rose}
 use Rattle.zj_dev.specs.Disk.{Continues, DiskView, EachImageSince, IsDisk}
 use Rattle.zj_tx.specs.Record.{IsRecord, Accepts, Record}

@@ -1,11 +1,11 @@
 -- What was taken performs the call, and its operation enters the history and joins the running transaction.
-use Rattle.std.proofs.Common.{refl, sym, ap, ◌∙◌, subst}
+use Rattle.std.proofs.Common.{refl, sym, subst}
 use Rattle.std.proofs.lemmas.Result.{err_from_is_err_and}
 use Rattle.zj_turns.specs.Passes.{PassState}
 use Rattle.zj_core.specs.Core.{IsStopCause}
 use Rattle.zj_core.specs.Handle.{TakesFor}
 use Rattle.zj_core.specs.Steps.{roomless_by}
-use Rattle.zj_core.proofs.Stopping.{joined, keeps_tree, performed, room_stops, take_stops}
+use Rattle.zj_core.proofs.Stopping.{joined, keeps_tree, performed, room_stops}
 use Rattle.zj_core.proofs.steps.stop_handle.Goals as goal
 
 pub enter-requires-clause-keeps : goal.enter-requires-clause-keeps

@@ -1,5 +1,5 @@
 -- The transaction was sealed, and its record laid and opened, or the journal has failed.
-use Rattle.std.proofs.Common.{◌<◌, ℕ, sym, ap, ◌∙◌, subst}
+use Rattle.std.proofs.Common.{◌<◌, ℕ, sym, ◌∙◌, subst}
 use Rattle.std.proofs.lemmas.Result.{err_from_is_err_and}
 use Rattle.zj_core.proofs.Committed.{core_commits, core_fails, fails_to_commit}
 use Rattle.zj_core.proofs.Running.{sealed_accepted}
