@@ -35,8 +35,8 @@ module _ {D : Type 0} (view : D → DiskView) (old mid new : AreaView D) (r : Re
       each_then (view old.device).calls (view mid.device) (view new.device) (IsEither records) continues
       (λ moment image since to may. inl (keeps records rest moment image since to may))
       (λ moment image since to may.
-          subst (λ (a : AreaView D). Holds a.sizes a.core image a.tail records a.end ⊎ Holds a.sizes a.core image a.tail (records ++ r ∷ []) (behind old.sizes old.end r)) is
-          (gate records r (lays records rest) moment image since to may))
+      subst (λ (a : AreaView D). Holds a.sizes a.core image a.tail records a.end ⊎ Holds a.sizes a.core image a.tail (records ++ r ∷ []) (behind old.sizes old.end r)) is
+      (gate records r (lays records rest) moment image since to may))
 
 -- ---- the core that it leaves
 
@@ -64,7 +64,7 @@ module _ {D : Type 0} (p : PassState) (area : AreaView D) (sizes : Numbers) (han
   pub fails_to_commit : (view : D → DiskView) (r : Record) → old.handles ≢ 0 → IsSealed old r → IsRecord r → Accepts area.sizes area.core area.end.number r
       → after ≡ record { device = after.device; sizes = area.sizes; core = area.core; tail = area.tail; end = area.end; ready = area.ready; failed = true; laid = area.laid }
       → ((records : List Record) → IsAtRest (journal_of view area) records → EachImageSince (view area.device).calls (view after.device)
-          (λ image. Holds area.sizes area.core image area.tail records area.end ⊎ Holds area.sizes area.core image area.tail (records ++ r ∷ []) (behind area.sizes area.end r)))
+      (λ image. Holds area.sizes area.core image area.tail records area.end ⊎ Holds area.sizes area.core image area.tail (records ++ r ∷ []) (behind area.sizes area.end r)))
       → Continues (view area.device) (view after.device) → IsDisk (view after.device) → Rose (view area.device).faults (view after.device).faults → FailsToCommit view before (shown p after sizes handle next)
   fails_to_commit view r some sealed is_record accepted fails images continues is_disk rose = subst (λ (x : CoreState D). FailsToCommit view x (shown p after sizes handle next)) is (record {
     sealed_as = r;
