@@ -25,6 +25,7 @@ use Rattle.zj_inode.specs.Performs.{Performs}
 use Rattle.zj_inode.specs.Run.{contents_found}
 use Rattle.zj_tx.specs.Frozen.{image_in}
 use Rattle.zj_tx.specs.Laws.{KeepsOneMore}
+use Rattle.zj_tx.specs.Record.{Ascends}
 use Rattle.zj_tx.specs.Running.{HasNoted, IsAdded, IsRoomCause, Transaction, new_count, stamped}
 use Rattle.zj_tx.specs.declared.fault.RoomFault.{RoomFault}
 use Rattle.zj_tx.specs.declared.fault.RoomFault.TheVariants as rooms
@@ -147,7 +148,7 @@ module _ (cache : CacheParameters) (p m q : PassState) (sizes : Numbers) (found 
     knows = draws.knows;
   }
 
-  module _ (old new : Transaction) (numbered : number ≡ old.number) (law : KeepsOneMore) (added : IsAdded old new ticket written follows) where
+  module _ (old new : Transaction) (numbered : number ≡ old.number) (law : KeepsOneMore) (added : IsAdded old new ticket written follows) (ascending : Ascends 0 new.parts) where
     noted : HasNoted follows (writers_found draws.operation)
     noted = subst (λ (fs : List FoundBlock). HasNoted follows (filter_map (λ (f : FoundBlock). f.writer) fs)) (sym draws.found) has.noted
 
@@ -168,6 +169,7 @@ module _ (cache : CacheParameters) (p m q : PassState) (sizes : Numbers) (found 
       core = draws.core_is ∙ ap (λ (x : PassState). x.core) more.only;
       number = draws.number_is ∙ numbered;
       keeps = λ operations keeps. law operations draws.operation old new follows keeps noted added_as;
+      ascending = ascending;
       within = within;
     }
 

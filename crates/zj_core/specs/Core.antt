@@ -10,6 +10,7 @@ use Rattle.zj_area.specs.Journal.{AreaView, fullness}
 use Rattle.zj_history.specs.Operation.{Contents, Operation}
 use Rattle.zj_history.specs.Transactions.{operations_of}
 use Rattle.zj_tx.specs.Frozen.{image_in}
+use Rattle.zj_tx.specs.Record.{Ascends}
 use Rattle.zj_tx.specs.Running.{Keeps, Transaction, new_count}
 use Rattle.zj_tree.specs.declared.call.Call.{Call}
 use Rattle.zj_tree.specs.declared.call.Reply.{Reply}
@@ -57,13 +58,14 @@ abbrev pub operations_running : {D : Type 0} → CoreState D → List Operation
 operations_running c = operations_of (mine c.pass).operations (record { core = c.pass.core; number = c.running.number })
 
 -- The running transaction of a core keeps what the core's operations with its number found and left, and the core has none with a
--- greater number. Its blocks are blocks of the image. While no commit has failed its number is that of the next record, and where it has
+-- greater number. Its blocks are blocks of the image, each once. While no commit has failed its number is that of the next record, and where it has
 -- an operation a longest record has room in the journal; once one has failed it has none.
 pub record Runs {D : Type 0} (c : CoreState D) : Type 0 where
   pub core : c.running.core ≡ c.pass.core
   pub cores : c.running.cores ≡ c.sizes.cores
   pub keeps : Keeps (operations_running c) c.running
   pub none_later : All (λ o. (o.core ≡ c.pass.core) × (o.number ≤ c.running.number)) (mine c.pass).operations
+  pub ascending : Ascends 0 c.running.parts
   pub within : (block : ℕ) → IsSome (image_in c.running.parts block) → block < c.sizes.blocks
   pub number : c.area.failed ≡ false → c.running.number ≡ c.area.end.number
   pub fits : c.area.failed ≡ false → c.running.handles ≢ 0 → fullness c.area.sizes c.area.tail c.area.end ≡ None
@@ -192,6 +194,7 @@ pub record Joins (sizes : Numbers) (old new : Transaction) (before after : PassS
   pub core : operation.core ≡ before.core
   pub number : operation.number ≡ old.number
   pub keeps : (operations : List Operation) → Keeps operations old → Keeps (operations ++ operation ∷ []) new
+  pub ascending : Ascends 0 new.parts
   pub within : (block : ℕ) → IsSome (image_in new.parts block) → IsSome (image_in old.parts block) ⊎ (block < sizes.blocks)
 
 -- On the way of a call that may be begun, blocks were taken that it may take, and there it can't be stopped.

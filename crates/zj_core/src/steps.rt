@@ -9,6 +9,7 @@ ghost use Rattle.zj_history.specs.Operation.{Operation};
 ghost use Rattle.zj_turns.specs.Views.{Has, Hold};
 ghost use Rattle.zj_turns.specs.Passes.{IsActive, holds, left_of, mine, now_knowing};
 ghost use Rattle.zj_block.specs.Numbers.{zero_bounds};
+ghost use Rattle.zj_tx.specs.Record.{Ascends};
 ghost use Rattle.zj_tx.specs.Running.{IsAdded, IsNoted, IsRoomCause};
 ghost use Rattle.zj_core.specs.Core.{IsOneMore, IsStopCause, IsTakeCause, Joins, NeedsNoMore, Performed, TakesNext};
 ghost use Rattle.zj_core.specs.Handle.{HasTaken, IsBegun, IsDue, IsPerformed, TakesFor, root_block};
@@ -203,6 +204,7 @@ fn enter(
     requires keeps { KeepsTree cache.now.sizes handle.now.taken written.now }
     ensures draws { IfOk result (Draws cache.now pass.old pass.new written.now running.old.number) }
     ensures adds { IfOk result (λ ticket. IsAdded running.old running.new ticket written.now handle.now.follows) }
+    ensures ascending { OnOk result (Ascends 0 running.new.parts) }
     ensures cause { IfErr result (IsRoomCause running.old written.now) }
     ensures pass { OnErr result (pass.new ≡ pass.old) }
     ensures running { OnErr result (running.new ≡ running.old) }
@@ -210,6 +212,7 @@ fn enter(
     running.make_room(written)?;
     let ticket = finish(cache, pass, handle, written, running.number());
     running.add(ticket, written, &handle.follows);
+    let _blocks = running.have();
     Ok(ticket)
 }
 
