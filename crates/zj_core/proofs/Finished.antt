@@ -68,7 +68,7 @@ found_each (e ∷ es) = ap (λ l. found_of e.0 e.1 ∷ l) (found_each es)
 found_same : (m n : finmap.FinMap nat_cmp Hold) → ((b : ℕ) → option_map (λ h. h.loaded) (finmap.get m b) ≡ option_map (λ h. h.loaded) (finmap.get n b)) → found_in m ≡ found_in n
 found_same m n is = found_each (finmap.entries m) ∙ ap (map found_word) (each_same (λ h. h.loaded) m n is) ∙ sym (found_each (finmap.entries n))
 
-found_entries : (es : List (ℕ × Hold)) → map {B = ℕ × List ℕ} (λ (f : FoundBlock). (f.block, f.content)) (map (λ e. found_of e.0 e.1) es) ≡ map {B = ℕ × List ℕ} (λ e. (e.0, take 64 e.1.loaded)) es
+pub found_entries : (es : List (ℕ × Hold)) → map {B = ℕ × List ℕ} (λ (f : FoundBlock). (f.block, f.content)) (map (λ e. found_of e.0 e.1) es) ≡ map {B = ℕ × List ℕ} (λ e. (e.0, take 64 e.1.loaded)) es
 found_entries [] = refl
 found_entries (e ∷ es) = ap (λ l. (e.0, take 64 e.1.loaded) ∷ l) (found_entries es)
 
@@ -168,7 +168,7 @@ knows_given P cores start q r k knows has is same empty = subst (λ (x : PassSta
 
 -- ---- what was taken
 
-module _ (sizes : Numbers) (p : PassState) (found : Entries) (has : HasTaken sizes p found) where
+module _ (sizes : Numbers) (p : PassState) (found : Entries) {follows : List ℕ} (has : HasTaken sizes p found follows) where
   -- a block that was taken is held, and no other
   pub taken_held : (b : ℕ) → content_under found b ≢ None → finmap.contains_key (mine p).held b ≡ true
   taken_held b some = by (finmap.get (mine p).held b) (λ none. some (has.same b ∙ none))
@@ -262,7 +262,7 @@ module _ (sizes : Numbers) (p : PassState) (found : Entries) (has : HasTaken siz
       }
 
 -- a pass that stored, drew and gave
-pub draws : (cache : CacheParameters) (p : PassState) (found : Entries) (has : HasTaken cache.sizes p found) (written : Contents) (contents : AreContents (finmap.entries written))
+pub draws : (cache : CacheParameters) (p : PassState) (found : Entries) {follows : List ℕ} (has : HasTaken cache.sizes p found follows) (written : Contents) (contents : AreContents (finmap.entries written))
     (within : (b : ℕ) → finmap.contains_key written b ≡ true → content_under found b ≢ None) → found ≢ [] → (ticket number : ℕ) (q r s : PassState)
     → q ≡ now_knowing p (stored_into (mine p) (finmap.entries written)) → r ≡ now_knowing q (drawing (mine q) (operation_of (mine q) ticket q.core number)) → s ≡ now_knowing r (given_back (mine r) found)
     → KnowsHistory (ShowsSome cache.sizes) cache.cores cache.start r.view → Draws cache p s written number ticket
@@ -277,7 +277,7 @@ draws cache p found has written contents within some ticket number q r s stores 
       ticket_is = refl;
       core_is = refl;
       number_is = refl;
-      found = ap (map (λ (f : FoundBlock). (f.block, f.content))) (stored_found (mine p) written (in_held cache.sizes p found has written contents within)) ∙ found_entries (finmap.entries (mine p).held);
+      found = stored_found (mine p) written (in_held cache.sizes p found has written contents within);
       written_is = written_is cache.sizes p found has written contents within;
       pass = next_step (λ x. given_back x found) p r s k drew gives ∙ ap (now_knowing p) (given_is cache.sizes p found has written contents within ticket number some);
       knows = knows_given (ShowsSome cache.sizes) cache.cores cache.start r s (given_back (mine r) found) knows (has_now p r k drew) gives (given_operations (mine r) found) empty;

@@ -41,10 +41,10 @@ module _ {D : Type 0} (cache : CacheParameters) (old new : CoreState D) (of : Is
   of_called (Err fault) call number performed err sizes = of_same err
 
   -- and its handle is as before
-  pub begun_called : (result : Result Done CallFault) → OnOk result (new ≡ record old { pass = new.pass }) → OnErr result (new ≡ old) → new.begun ≡ old.begun
+  pub begun_called : (result : Result Done CallFault) → OnOk result (new ≡ record old { pass = new.pass; running = new.running }) → OnErr result (new ≡ old) → new.begun ≡ old.begun
   begun_called (Ok done) closed err = ap (λ (x : CoreState D). x.begun) closed
   begun_called (Err fault) closed err = ap (λ (x : CoreState D). x.begun) err
 
-  pub sizes_called : (result : Result Done CallFault) → OnOk result (new ≡ record old { pass = new.pass }) → OnOk result (new.sizes ≡ old.sizes)
+  pub sizes_called : (result : Result Done CallFault) → OnOk result (new ≡ record old { pass = new.pass; running = new.running }) → OnOk result (new.sizes ≡ old.sizes)
   sizes_called (Ok done) closed = ap (λ (x : CoreState D). x.sizes) closed
   sizes_called (Err fault) closed = tt

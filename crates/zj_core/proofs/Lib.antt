@@ -1,10 +1,13 @@
+pub mod Committed
 pub mod Finished
 pub mod Given
 pub mod Going
 pub mod Knowing
 pub mod Meeting
 pub mod Needing
+pub mod Noting
 pub mod Resting
+pub mod Running
 pub mod Stopping
 pub mod Stored
 pub mod Taking

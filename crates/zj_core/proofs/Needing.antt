@@ -73,7 +73,7 @@ module _ (sizes : Numbers) (found other : Entries) (same : (b : ℕ) → content
 
 -- ---- outcomes
 
-module _ (sizes : Numbers) (p : PassState) (found : Entries) (call : Call) (has : HasTaken sizes p found) where
+module _ (sizes : Numbers) (p : PassState) (found : Entries) (call : Call) {follows : List ℕ} (has : HasTaken sizes p found follows) where
   same_held : (b : ℕ) → content_under (entries_held (mine p)) b ≡ content_under found b
   same_held b = held_under (mine p) b ∙ sym (has.same b)
 
@@ -105,7 +105,7 @@ module _ (sizes : Numbers) (p : PassState) (found : Entries) (call : Call) (has 
   }
 
 -- a block that is due and wasn't taken
-pub missed_next : (cache : CacheParameters) (sizes : Numbers) (p : PassState) (found : Entries) (call : Call) → HasTaken sizes p found → (block : ℕ) → IsDue sizes found call block → (fault : TakeFault) → IsMissed cache p block fault → IsTakeCause cache sizes p call fault
+pub missed_next : (cache : CacheParameters) (sizes : Numbers) (p : PassState) (found : Entries) (call : Call) {follows : List ℕ} → HasTaken sizes p found follows → (block : ℕ) → IsDue sizes found call block → (fault : TakeFault) → IsMissed cache p block fault → IsTakeCause cache sizes p call fault
 missed_next cache sizes p found call has block due (faults.Busy number holder) missed = (
   needs_next sizes p found call has number (subst (IsDue sizes found call) (sym missed.0) due),
   (refl, missed.1, missed.2, subst (λ b. (k : Known) → finmap.get p.view.known holder ≡ Some k → finmap.contains_key k.held b ≡ true) (sym missed.0) missed.3),
@@ -162,13 +162,13 @@ always_more sizes p q found same more P always state tree possible = always stat
 
 module _ (cache : CacheParameters) (sizes : Numbers) (p q r : PassState) (call : Call) (then : TakesMore cache q r) where
   -- blocks taken before and one block more
-  pub for_call : (found : Entries) (block : ℕ) → HasTaken sizes q found → IsDue sizes found call block → ((b : ℕ) → holds r b ≡ true → (b ≡ block) ⊎ (holds q b ≡ true)) → TakesFor sizes p q call → TakesFor sizes p r call
+  pub for_call : (found : Entries) (block : ℕ) {follows : List ℕ} → HasTaken sizes q found follows → IsDue sizes found call block → ((b : ℕ) → holds r b ≡ true → (b ≡ block) ⊎ (holds q b ≡ true)) → TakesFor sizes p q call → TakesFor sizes p r call
   for_call found block has due only before b here was = ⊎_elim
       (λ same. subst (λ c. Always sizes (entries_held (mine r)) (λ image. Foot sizes image call c)) (sym same) (always_more sizes q r found has.same then.more (λ image. Foot sizes image call block) due.foot))
       (λ there. always_more sizes q r (entries_held (mine q)) (held_under (mine q)) then.more (λ image. Foot sizes image call b) (before b there was))
       (only b here)
 
-pub takes_none : (cache : CacheParameters) (sizes : Numbers) (p : PassState) (found : Entries) → HasTaken sizes p found → TakesMore cache p p
+pub takes_none : (cache : CacheParameters) (sizes : Numbers) (p : PassState) (found : Entries) {follows : List ℕ} → HasTaken sizes p found follows → TakesMore cache p p
 takes_none cache sizes p found has = record {
   more = record { operations = refl; drawn = refl; ticket = refl; number = refl; kept = λ b h e. e };
   only = sym (knowing_same p has.known);

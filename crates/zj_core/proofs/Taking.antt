@@ -1,7 +1,7 @@
 -- One block that a pass takes and loads.
 use Rattle.std.proofs.Common.{◌≡◌, ◌≢◌, ◌⊎◌, inl, inr, ⊎_elim, ℕ, ◌==◌, Bool, true, false, true≢false, cond, eqb, eq-eqb, ne_eqb, is_some, List, [], ◌∷◌, ◌++◌, length, length-append, take, Option, Some, None, IsSome, refl, sym, ap, ◌∙◌, subst, arith}
 use Rattle.std.specs.Option.{option_map}
-use Rattle.std.specs.Prelude.{slice_get}
+use Rattle.std.specs.Prelude.{◌↔◌, IfNone, IfSome, IsNone, slice_get}
 use Rattle.std.specs.Ordering.{nat_cmp}
 use Rattle.std.specs.FinMap as finmap
 use Rattle.std.proofs.Math.Seq.{take-append_seam}
@@ -13,17 +13,21 @@ use Rattle.zj_block.specs.declared.numbers.Writer.{Writer}
 use Rattle.zj_layout.specs.Shows.{ShowsSome}
 use Rattle.zj_turns.specs.Views.{Hold, Known, hold_in, holding, giving, loaded_as, seal_of, taken as just_taken}
 use Rattle.zj_turns.specs.Passes.{CacheParameters, PassState, SomeStateAgrees, hold_of, holds, mine, now_knowing}
+use Rattle.zj_turns.specs.Laws.{LoadedIsFound}
 use Rattle.zj_turns.proofs.Maps.{get_here, get_else}
 use Rattle.zj_turns.proofs.Again.{insert_again, remove_new}
 use Rattle.zj_core.proofs.Knowing.{has_now, knowing_again, knowing_same, mine_now}
-use Rattle.zj_core.specs.Handle.{HasTaken, IsPartOfSome, IsRead, content_held, root_block}
+use Rattle.zj_tx.specs.Running.{HasNoted, IsNoted}
+use Rattle.zj_core.specs.Handle.{HasTaken, IsPartOfSome, IsRead, content_held, root_block, writers_held}
 use Rattle.zj_core.specs.Steps.{IsFree, Knows, TakesMore}
+use Rattle.zj_core.proofs.Noting.{noted_more}
+use Rattle.zj_history.specs.Operation.{FoundBlock}
 
 pub holding_again : (k : Known) (b : ℕ) (h h' : Hold) → holding (holding k b h) b h' ≡ holding k b h'
 holding_again k b h h' = ap (λ m. record { operations = k.operations; held = m; drawn = k.drawn; ticket = k.ticket; number = k.number }) (insert_again k.held b h h')
 
 -- what is not under a number is not held
-pub not_held : (sizes : Numbers) (p : PassState) (found : Entries) → HasTaken sizes p found → (b : ℕ) → content_under found b ≡ None → finmap.get (mine p).held b ≡ None
+pub not_held : (sizes : Numbers) (p : PassState) (found : Entries) {follows : List ℕ} → HasTaken sizes p found follows → (b : ℕ) → content_under found b ≡ None → finmap.get (mine p).held b ≡ None
 not_held sizes p found has b none = by (finmap.get (mine p).held b) (sym (has.same b) ∙ none)
   where
     by : (o : Option Hold) → option_map (λ (h : Hold). take 64 h.loaded) o ≡ None → o ≡ None
@@ -58,7 +62,7 @@ pub taken_clear : (p q : PassState) (b : ℕ) → q ≡ now_knowing p (holding (
 taken_clear p q b e clear = ap (λ (x : PassState). (mine x).drawn) e ∙ ap (λ (k : Known). k.drawn) (mine_now p (holding (mine p) b just_taken)) ∙ clear
 
 module _ (sizes : Numbers) (p r : PassState) (found found' : Entries) (b : ℕ) (content : List ℕ) (stamp : ℕ) (writer : Option Writer)
-    (has : HasTaken sizes p found) (fresh : content_under found b ≡ None) (long : length content ≡ 64)
+    {follows : List ℕ} (has : HasTaken sizes p found follows) (fresh : content_under found b ≡ None) (long : length content ≡ 64)
     (is : r ≡ now_knowing p (holding (mine p) b (loaded_as (content ++ seal_of stamp writer)))) where
   abbrev words : List ℕ
   words = content ++ seal_of stamp writer
@@ -80,6 +84,11 @@ module _ (sizes : Numbers) (p r : PassState) (found found' : Entries) (b : ℕ) 
 
   pub unstored : (hold_of r b).stored ≡ []
   unstored = ap (λ (o : Option Hold). (Rattle.std.specs.Option.unwrap_or o just_taken).stored) get_block
+
+  -- its last writer was noted
+  pub noted_now : LoadedIsFound → IsNone writer ↔ (stamp ≡ 0) → (follows' : List ℕ) → IfSome writer (IsNoted follows follows') → IfNone writer (follows' ≡ follows) → HasNoted follows' (writers_held (mine r))
+  noted_now law told follows' some none = subst (λ (k : Known). HasNoted follows' (writers_held k)) (sym mine_is)
+      (noted_more follows follows' (mine p) b words writer has.noted (not_held sizes p found has b fresh) (ap (λ (f : FoundBlock). f.writer) (law b stamp content writer long told).0) some none)
 
   -- given back at once all is as it was
   pub undone : (s : PassState) → s ≡ now_knowing r (giving (mine r) b) → s ≡ p
@@ -152,11 +161,12 @@ module _ (sizes : Numbers) (p r : PassState) (found found' : Entries) (b : ℕ) 
         agrees c x None e q = absurd cc
         agrees c x (Some h) e q = some.agrees c h e (read_now c h e).loaded ∙ q
 
-    pub has_more : (content_under found (root_block sizes) ≡ None → b ≡ root_block sizes) → SomeStateAgrees (ShowsSome sizes) (mine r) → HasTaken sizes r found'
-    has_more first some = record {
+    pub has_more : (content_under found (root_block sizes) ≡ None → b ≡ root_block sizes) → SomeStateAgrees (ShowsSome sizes) (mine r) → (follows' : List ℕ) → HasNoted follows' (writers_held (mine r)) → HasTaken sizes r found' follows'
+    has_more first some follows' noted = record {
       known = has_now p r (holding (mine p) b (loaded_as words)) is;
       clear = ap (λ (k : Known). k.drawn) mine_is ∙ has.clear;
       read = read_now;
       same = same_now;
       begun = inr (root_now first, part_now some);
+      noted = noted;
     }

@@ -1,6 +1,7 @@
 -- What the handle of a core has taken, as its pass has it.
 use Rattle.std.specs.Prelude.{◌≡◌, ◌⊎◌, ℕ, ◌<◌, true, false, List, [], length, map, take, Option, Some, None, IsSome}
 use Rattle.std.specs.FinMap as finmap
+use Rattle.std.specs.List.{filter_map}
 use Rattle.std.specs.Option.{option_map}
 use Rattle.zj_block.specs.Lists.{Entries, content_under}
 use Rattle.zj_block.specs.Sizes.{Numbers}
@@ -12,7 +13,9 @@ use Rattle.zj_layout.specs.Shows.{Changes}
 use Rattle.zj_dirs.specs.Possible.{Always, IsPossible}
 use Rattle.zj_inode.specs.Footprint.{Foot}
 use Rattle.zj_inode.specs.Performs.{Performs}
-use Rattle.zj_turns.specs.Views.{Has, Hold, Known}
+use Rattle.zj_block.specs.declared.numbers.Writer.{Writer}
+use Rattle.zj_tx.specs.Running.{HasNoted}
+use Rattle.zj_turns.specs.Views.{Has, Hold, Known, found_in}
 use Rattle.zj_turns.specs.Passes.{PassState, holds, mine}
 
 -- the number of the block that each handle takes first: that of the root's node
@@ -42,13 +45,19 @@ pub record IsPartOfSome (sizes : Numbers) (found : Entries) : Type 0 where
 abbrev pub IsBegun : Numbers → Entries → Type 0
 IsBegun sizes found = (found ≡ []) ⊎ (IsSome (content_under found (root_block sizes)) × IsPartOfSome sizes found)
 
--- What a core holds are the blocks that were taken, as they were loaded. It has drawn for none of them.
-pub record HasTaken (sizes : Numbers) (p : PassState) (found : Entries) : Type 0 where
+-- the transactions that last wrote the blocks that a core holds, as they were loaded
+abbrev pub writers_held : Known → List Writer
+writers_held k = filter_map (λ f. f.writer) (found_in k.held)
+
+-- What a core holds are the blocks that were taken, as they were loaded, and their last writers were noted. It has drawn for none of
+-- them.
+pub record HasTaken (sizes : Numbers) (p : PassState) (found : Entries) (follows : List ℕ) : Type 0 where
   pub known : Has p.view p.core
   pub clear : (mine p).drawn ≡ false
   pub read : (b : ℕ) (h : Hold) → finmap.get (mine p).held b ≡ Some h → IsRead h
   pub same : (b : ℕ) → content_under found b ≡ content_held (mine p) b
   pub begun : IsBegun sizes found
+  pub noted : HasNoted follows (writers_held (mine p))
 
 -- A call over blocks that were taken needs another one, which it may take in every state that shows a tree and has them. The first
 -- is that of the root's node.

@@ -8,10 +8,10 @@ use Rattle.zj_tree.specs.Tree.{FileTree}
 use Rattle.zj_layout.specs.Image.{State}
 use Rattle.zj_layout.specs.Shows.{ShowsSome, put_blocks}
 use Rattle.zj_dirs.specs.Possible.{IsPossible}
-use Rattle.zj_inode.specs.Run.{contents_found}
-use Rattle.zj_turns.specs.Views.{Hold, Known, hold_in, holding, giving, stored_as}
+use Rattle.zj_turns.specs.Views.{Hold, Known, found_in, hold_in, holding, giving, stored_as}
 use Rattle.zj_turns.specs.Passes.{CacheParameters, KnowsHistory, PassState, holds, mine, now_knowing}
-use Rattle.zj_core.specs.Handle.{entries_held}
+use Rattle.zj_tx.specs.declared.fault.RoomFault.{RoomFault}
+use Rattle.zj_tx.specs.declared.fault.RoomFault.TheVariants as rooms
 use Rattle.zj_core.specs.declared.fault.TakeFault.{TakeFault}
 use Rattle.zj_core.specs.declared.fault.TakeFault.TheVariants as faults
 use Rattle.zj_core.specs.declared.fault.BeginFault.{BeginFault}
@@ -56,13 +56,21 @@ abbrev pub stopped_by : TakeFault → StopFault
 stopped_by (faults.Busy block holder) = stops.Busy block holder
 stopped_by faults.NoMemory = stops.NoMemory
 
+-- the fault of new contents that have no room in the running transaction
+abbrev pub roomless_by : RoomFault → StopFault
+roomless_by (rooms.TxFull have more) = stops.TxFull have more
+roomless_by rooms.NoMemory = stops.NoMemory
+
 -- and a fault of beginning or stopping, as it keeps a call from being made
 abbrev pub unbegun_by : BeginFault → CallFault
+unbegun_by (begins.Failed core) = calls.Failed core
 unbegun_by (begins.Spent drawn) = calls.Spent drawn
+unbegun_by (begins.JournalFull need free) = calls.JournalFull need free
 unbegun_by begins.NoMemory = calls.NoMemory
 
 abbrev pub unstopped_by : StopFault → CallFault
 unstopped_by (stops.Busy block holder) = calls.Busy block holder
+unstopped_by (stops.TxFull have more) = calls.TxFull have more
 unstopped_by stops.NoMemory = calls.NoMemory
 
 -- contents stored into blocks that are held, one after the other from the last on
@@ -93,7 +101,7 @@ pub record Draws (cache : CacheParameters) (old new : PassState) (written : Cont
   pub ticket_is : operation.ticket ≡ ticket
   pub core_is : operation.core ≡ old.core
   pub number_is : operation.number ≡ number
-  pub found : contents_found operation ≡ entries_held (mine old)
+  pub found : operation.found ≡ found_in (mine old).held
   pub written_is : operation.written ≡ written
   pub pass : new ≡ now_knowing old (with_operation (mine old) operation)
   pub knows : Knows cache new

@@ -1,23 +1,29 @@
 //! A core and its handle.
 
-ghost use Rattle.std.specs.Prelude.{◌≡◌, ◌≢◌, IfErr, IfNone, IfOk, IfSome, IsSome, None, OnErr, OnOk, Some, is_some, length, true, false};
+ghost use Rattle.std.specs.Prelude.{[], ◌≡◌, ◌≢◌, IfErr, IfNone, IfOk, IfSome, IsSome, None, OnErr, OnOk, Some, is_some, length, true, false};
 ghost use Rattle.std.specs.FinMap as finmap;
 ghost use Rattle.zj_turns.specs.Passes.{IsIdle, IsPeer, left_of, mine, now_knowing, with_away, with_view};
 ghost use Rattle.zj_turns.specs.Views.{joined, without};
-ghost use Rattle.zj_core.specs.Core.{IsBeginCause, IsCallCause, IsOf, IsReady, IsSteady, IsStopCause, IsTakeCause, NeedsNoMore, Performed, TakesNext, number_of};
+ghost use Rattle.zj_tx.specs.Running.{empty_transaction};
+ghost use Rattle.zj_core.specs.declared.fault.CommitFault.TheVariants as commits;
+ghost use Rattle.zj_core.specs.Committing.{Commits, IsCommitCause};
+ghost use Rattle.zj_core.specs.Core.{IsBeginCause, IsCallCause, IsOf, IsOneMore, IsReady, IsSteady, IsStopCause, IsTakeCause, MayBegin, NeedsNoMore, Performed, TakesNext, number_of};
 ghost use Rattle.zj_core.specs.Handle.{TakesFor};
 ghost use Rattle.zj_core.specs.Steps.{TakesMore, emptied};
 
-use crate::fault::{BeginFault, CallFault, StopFault, TakeFault};
+use crate::committing::write_record;
+use crate::fault::{BeginFault, CallFault, CommitFault, StopFault, TakeFault};
 use crate::shows::ShowsTree;
-use crate::steps::{finish, give_all, take_all, take_next};
+use crate::steps::{Handle, give_all, stop_handle, take_next};
 use std::alloc::Global;
 use std::marker::Model;
 use zj_area::Area;
-use zj_block::{BlockNo, Sizes, Taken};
+use zj_block::{BlockNo, Sizes};
 use zj_dev::Disk;
 use zj_tree::{Call, Reply};
 use zj_turns::{Cache, Pass};
+use zj_tx::Running;
+use zj_tx::laws::{noted_are_bounds, sealed_is_frozen};
 
 /// What a call was answered that entered the history.
 #[derive(Debug, PartialEq, Eq, Drop)]
@@ -37,14 +43,7 @@ pub struct CoreRefused<D: Disk> {
     pub area: Area<D>,
 }
 
-/// An open handle: the call that it is for, and the blocks that it has taken.
-#[derive(Drop)]
-pub(crate) struct Handle {
-    pub(crate) call: Call,
-    pub(crate) taken: Taken,
-}
-
-/// One core: its pass of the cache, its journal, and the handle that is open, if one is.
+/// One core: its pass of the cache, its journal, the handle that is open, if one is, and its running transaction.
 #[derive(Drop)]
 pub struct Core<D: Disk> {
     alloc: Global,
@@ -52,6 +51,7 @@ pub struct Core<D: Disk> {
     area: Area<D>,
     sizes: Sizes,
     handle: Option<Handle>,
+    running: Running,
 }
 
 impl<D: Disk> Model for Core<D> {
@@ -64,9 +64,9 @@ impl<D: Disk> Model for Core<D> {
 
     ghost coded = { Prim.hlevel (codes, pass_state_code) };
 
-    ghost view = { λ c. record { pass = c.pass; area = c.area; sizes = c.sizes; begun = option_map (λ h. h.call) c.handle } };
+    ghost view = { λ c. record { pass = c.pass; area = c.area; sizes = c.sizes; begun = option_map (λ h. h.call) c.handle; running = c.running } };
 
-    ghost invariant = { λ c. IsCore c.pass c.area c.sizes c.handle };
+    ghost invariant = { λ c. IsCore (record { pass = c.pass; area = c.area; sizes = c.sizes; begun = option_map (λ h. h.call) c.handle; running = c.running }) c.handle };
 }
 
 impl<D: Disk> Core<D> {
@@ -83,15 +83,20 @@ impl<D: Disk> Core<D> {
         requires core { area.core ≡ pass.core }
         requires sizes { area.sizes ≡ sizes.now }
         requires ready { IsReady area }
-        ensures ok { IfOk result (λ core. core ≡ record { pass = pass; area = area; sizes = sizes.now; begun = None }) }
+        requires none { (mine pass).operations ≡ [] }
+        ensures ok { IfOk result (λ core. core ≡ record { pass = pass; area = area; sizes = sizes.now; begun = None; running = empty_transaction pass.core sizes.now.cores area.end.number }) }
         ensures err { IfErr result (λ refused. (refused.pass ≡ pass) × (refused.area ≡ area)) }
     {
+        noted_are_bounds();
+        sealed_is_frozen();
+        let running = Running::new(alloc, area.core(), sizes.cores(), area.end().number);
         Ok(Core {
             alloc,
             pass,
             area,
             sizes: *sizes,
             handle: None,
+            running,
         })
     }
 
@@ -124,33 +129,62 @@ impl<D: Disk> Core<D> {
         self.pass.left()
     }
 
-    /// The number of the transaction that its operations belong to.
+    /// The number of its running transaction.
     pub fn number(&self) -> u64
         ensures { result ≡ number_of self.now }
     {
-        self.area.end().number
+        self.running.number()
     }
 
-    /// Begins a handle for a call. It takes no block yet.
-    ///
-    /// `Spent` comes exactly where the core has no draw left, unless memory runs out. After an error all is as before.
-    pub fn begin(&mut self, call: &Call) -> Result<(), BeginFault>
-        requires idle { self.old.begun ≡ None }
-        ensures begun { OnOk result (self.new ≡ record self.old { begun = Some call.now }) }
-        ensures left { OnOk result (left_of self.old.pass ≢ 0) }
-        ensures cause { IfErr result (IsBeginCause self.old.pass) }
-        ensures err { OnErr result (self.new ≡ self.old) }
+    /// How many operations its running transaction has.
+    pub fn handles(&self) -> u64
+        ensures { result ≡ self.now.running.handles }
     {
-        let left = self.pass.left();
-        if left == 0 {
+        self.running.handles()
+    }
+
+    /// Whether a commit of it has failed. It then goes on failing until the image is mounted again.
+    pub fn failed(&self) -> bool
+        ensures { result ≡ self.now.area.failed }
+    {
+        self.area.failed()
+    }
+
+    /// Refuses where no handle may be begun.
+    fn may_begin(&self) -> Result<(), BeginFault>
+        ensures may { OnOk result (MayBegin self.now) }
+        ensures cause { IfErr result (IsBeginCause self.now) }
+    {
+        if self.area.failed() {
+            return Err(BeginFault::Failed {
+                core: self.pass.core(),
+            });
+        }
+        if self.pass.left() == 0 {
             return Err(BeginFault::Spent {
                 drawn: u64::from(u32::MAX),
             });
         }
-        self.handle = Some(Handle {
-            call: call.copy(self.alloc)?,
-            taken: Taken::new(self.alloc),
-        });
+        if self.running.handles() > 0 {
+            return Ok(());
+        }
+        Ok(self.area.fits_one()?)
+    }
+
+    /// Begins a handle for a call. It takes no block yet.
+    ///
+    /// `Failed` comes exactly where a commit of the core has failed; else `Spent` exactly where it has no draw left; else `JournalFull`
+    /// exactly where its running transaction has no operation and a longest record has no room in its journal; unless memory runs
+    /// out. After an error all is as before.
+    pub fn begin(&mut self, call: &Call) -> Result<(), BeginFault>
+        requires idle { self.old.begun ≡ None }
+        ensures begun { OnOk result (self.new ≡ record self.old { begun = Some call.now }) }
+        ensures may { OnOk result (MayBegin self.old) }
+        ensures cause { IfErr result (IsBeginCause self.old) }
+        ensures err { OnErr result (self.new ≡ self.old) }
+    {
+        self.may_begin()?;
+        self.handle = Some(Handle::new(self.alloc, call)?);
         Ok(())
     }
 
@@ -170,26 +204,21 @@ impl<D: Disk> Core<D> {
         let Some(handle) = &mut self.handle else {
             unreachable!()
         };
-        take_next(
-            self.alloc,
-            cache,
-            &self.sizes,
-            &handle.call,
-            &mut self.pass,
-            &mut handle.taken,
-        )
+        take_next(self.alloc, cache, &self.sizes, &mut self.pass, handle)
     }
 
-    /// Takes what the call of the open handle needs besides, stores its new contents, draws its ticket, and gives all blocks back.
-    /// No handle is open then.
+    /// Takes what the call of the open handle needs besides, stores its new contents, draws its ticket, gives all blocks back, and adds
+    /// the operation to the running transaction. No handle is open then.
     ///
-    /// After an error the handle stays open with what it took, and all else is as before.
+    /// `TxFull` comes exactly where nothing more is needed, and with the new blocks the running transaction would have more than 48. After
+    /// an error the handle stays open with what it took, and all else is as before.
     pub fn stop(&mut self, cache: &Cache<ShowsTree>) -> Result<Done, StopFault>
         requires of { IsOf cache.now self.old }
         requires open { IsSome self.old.begun }
         ensures done { IfOk result (λ done. IfSome self.old.begun (λ call. Performed cache.now self.old.sizes (number_of self.old) self.old.pass self.new.pass call done)) }
-        ensures closed { OnOk result (self.new ≡ record self.old { pass = self.new.pass; begun = None }) }
-        ensures cause { IfErr result (λ fault. IfSome self.old.begun (λ call. IsStopCause cache.now self.old.sizes self.new.pass call fault)) }
+        ensures closed { OnOk result (self.new ≡ record self.old { pass = self.new.pass; begun = None; running = self.new.running }) }
+        ensures joined { OnOk result (IsOneMore self.old.running self.new.running) }
+        ensures cause { IfErr result (λ fault. IfSome self.old.begun (λ call. IsStopCause cache.now self.old.sizes self.new.pass self.old.running call fault)) }
         ensures takes { OnErr result (TakesMore cache.now self.old.pass self.new.pass) }
         ensures foot { OnErr result (IfSome self.old.begun (TakesFor self.old.sizes self.old.pass self.new.pass)) }
         ensures stays { OnErr result (self.new ≡ record self.old { pass = self.new.pass }) }
@@ -197,22 +226,20 @@ impl<D: Disk> Core<D> {
         let Some(mut handle) = self.handle.take() else {
             unreachable!()
         };
-        let number = self.area.end().number;
-        match take_all(
+        noted_are_bounds();
+        let _end = self.area.end();
+        match stop_handle(
             self.alloc,
             cache,
             &self.sizes,
-            &handle.call,
             &mut self.pass,
-            &mut handle.taken,
+            &mut self.running,
+            &mut handle,
         ) {
-            Ok((reply, written)) => {
-                let ticket = finish(cache, &mut self.pass, &handle.taken, &written, number);
-                Ok(Done { ticket, reply })
-            }
+            Ok(done) => Ok(done),
             Err(fault) => {
                 self.handle = Some(handle);
-                Err(fault.into())
+                Err(fault)
             }
         }
     }
@@ -223,6 +250,7 @@ impl<D: Disk> Core<D> {
         requires open { IsSome self.old.begun }
         ensures { self.new ≡ record self.old { pass = now_knowing self.old.pass (emptied (mine self.old.pass)); begun = None } }
     {
+        noted_are_bounds();
         if let Some(handle) = self.handle.take() {
             give_all(cache, &mut self.pass, &handle.taken);
         }
@@ -235,8 +263,10 @@ impl<D: Disk> Core<D> {
         requires of { IsOf cache.now self.old }
         requires idle { self.old.begun ≡ None }
         ensures done { IfOk result (Performed cache.now self.old.sizes (number_of self.old) self.old.pass self.new.pass call.now) }
-        ensures closed { OnOk result (self.new ≡ record self.old { pass = self.new.pass }) }
-        ensures cause { IfErr result (IsCallCause cache.now self.old.sizes self.old.pass call.now) }
+        ensures closed { OnOk result (self.new ≡ record self.old { pass = self.new.pass; running = self.new.running }) }
+        ensures joined { OnOk result (IsOneMore self.old.running self.new.running) }
+        ensures may { OnOk result (MayBegin self.old) }
+        ensures cause { IfErr result (IsCallCause cache.now self.old call.now) }
         ensures err { OnErr result (self.new ≡ self.old) }
     {
         // What the core keeps is known from here on.
@@ -273,7 +303,33 @@ impl<D: Disk> Core<D> {
         cache.part(&mut self.pass, &mut other.pass);
     }
 
-    /// The pass and the journal, once no handle is open.
+    /// Commits the running transaction: seals it, lays its record in the journal with the gate closed, and opens the gate. It makes two
+    /// writes and two syncs, and one more write of a byte, all on its own journal; it takes no memory, and waits for no other core.
+    ///
+    /// `Failed` comes exactly where an earlier commit has failed, else `Empty` exactly where the transaction has no operation; the core is
+    /// then as before. After `DiskFault` the transaction is sealed all the same, and the core has failed: its record may be found by a later
+    /// mount, or not.
+    pub fn commit(&mut self) -> Result<u64, CommitFault>
+        requires idle { self.old.begun ≡ None }
+        ensures number { IfOk result (λ number. number ≡ number_of self.old) }
+        ensures committed { OnOk result (Commits D.view self.old self.new) }
+        ensures cause { IfErr result (IsCommitCause D.view self.old self.new) }
+    {
+        if self.area.failed() {
+            return Err(CommitFault::Failed {
+                core: self.pass.core(),
+            });
+        }
+        if self.running.handles() == 0 {
+            return Err(CommitFault::Empty);
+        }
+        sealed_is_frozen();
+        let _journal = (self.area.core(), self.area.end());
+        let sealed = self.running.seal();
+        Ok(write_record(&mut self.area, &sealed)?)
+    }
+
+    /// The pass and the journal, once no handle is open. What runs uncommitted is dropped.
     pub fn close(self) -> (Pass<ShowsTree>, Area<D>)
         requires { self.begun ≡ None }
         ensures { result ≡ (self.pass, self.area) }

@@ -1,7 +1,7 @@
 //! Cores over one cache: step by step, refused by each other, and on threads of their own.
 
-ghost use Rattle.std.specs.Prelude.{◌≡◌, ◌≢◌, IfOk, IsSome, None, false};
-ghost use Rattle.zj_turns.specs.Passes.{IsIdle, IsPeer};
+ghost use Rattle.std.specs.Prelude.{[], ◌≡◌, ◌≢◌, IfOk, IsSome, None, false};
+ghost use Rattle.zj_turns.specs.Passes.{IsIdle, IsPeer, mine};
 ghost use Rattle.zj_core.specs.Core.{CoreState, IsOf};
 
 use super::*;
@@ -21,9 +21,15 @@ const AREA: u64 = 131_072;
 /// How many calls each of two cores makes on threads.
 const MANY: u32 = 100;
 
-/// A core of a pass that was just dealt, with an empty journal.
-fn core_of(alloc: Global, pass: Pass<ShowsTree>, sizes: &Sizes) -> Result<Core<MemDisk>, Fail>
-    requires { IsIdle pass.table pass.core pass }
+/// A core of a pass that was just dealt, with an empty journal, whose device fails at the calls with these numbers.
+fn core_of(
+    alloc: Global,
+    pass: Pass<ShowsTree>,
+    sizes: &Sizes,
+    failing: &[u64],
+) -> Result<Core<MemDisk>, Fail>
+    requires idle { IsIdle pass.table pass.core pass }
+    requires none { (mine pass).operations ≡ [] }
     ensures { IfOk result (λ core. (core.pass ≡ pass) × (core.sizes ≡ sizes.now) × (core.begun ≡ None)) }
 {
     let core = pass.core();
@@ -31,7 +37,7 @@ fn core_of(alloc: Global, pass: Pass<ShowsTree>, sizes: &Sizes) -> Result<Core<M
         return Err("a core of the image".into());
     }
     let zeros = [0u8; AREA as usize];
-    let disk = MemDisk::new(alloc, &zeros, &[], None)?;
+    let disk = MemDisk::new(alloc, &zeros, failing, None)?;
     if sizes.area() != AREA {
         return Err("the area's length".into());
     }
@@ -59,7 +65,8 @@ struct Two {
     two: Core<MemDisk>,
 }
 
-fn two_cores(alloc: Global) -> Result<Two, Fail>
+/// The device of the first core fails at the calls with these numbers.
+fn two_cores(alloc: Global, failing: &[u64]) -> Result<Two, Fail>
     ensures one { IfOk result (λ made. IsOf made.cache made.one × (made.one.begun ≡ None)) }
     ensures two { IfOk result (λ made. IsOf made.cache made.two × (made.two.begun ≡ None)) }
     ensures peers { IfOk result (λ made. IsPeer made.one.pass made.two.pass false × IsPeer made.two.pass made.one.pass false) }
@@ -72,8 +79,8 @@ fn two_cores(alloc: Global) -> Result<Two, Fail>
     };
     Ok(Two {
         cache,
-        one: core_of(alloc, one, &sizes)?,
-        two: core_of(alloc, two, &sizes)?,
+        one: core_of(alloc, one, &sizes, failing)?,
+        two: core_of(alloc, two, &sizes, &[])?,
     })
 }
 
@@ -155,6 +162,47 @@ fn refused(
     })
 }
 
+/// The number of a core's running transaction, and how many operations it has.
+fn running_of(core: &Core<MemDisk>) -> (u64, u64) {
+    (core.number(), core.handles())
+}
+
+/// What a core was answered that committed twice and then began a handle, with its running transaction before and after.
+#[derive(Debug, PartialEq, Drop)]
+struct Committed {
+    before: (u64, u64),
+    first: Result<u64, CommitFault>,
+    second: Result<u64, CommitFault>,
+    begun: Result<(), BeginFault>,
+    after: (u64, u64),
+}
+
+/// A core commits twice, and begins a handle.
+fn commits(core: &mut Core<MemDisk>, call: &Call) -> Committed
+    requires { core.old.begun ≡ None }
+{
+    let before = running_of(core);
+    let first = core.commit();
+    let second = core.commit();
+    Committed {
+        before,
+        first,
+        second,
+        begun: core.begin(call),
+        after: running_of(core),
+    }
+}
+
+/// Each of two cores makes a call, and the first one commits. Answers that, and the running transaction of the second.
+fn calls_and_commits(mut made: Two, one: &Call, two: &Call) -> (Committed, (u64, u64))
+    requires one { IsOf made.cache made.one × (made.one.begun ≡ None) }
+    requires two { IsOf made.cache made.two × (made.two.begun ≡ None) }
+{
+    let _one = made.one.call(&made.cache, one);
+    let _two = made.two.call(&made.cache, two);
+    (commits(&mut made.one, one), running_of(&made.two))
+}
+
 /// The first core meets the second, and parts from it. Answers whether the second is away, before and after.
 fn meets(cache: &Cache<ShowsTree>, one: &mut Core<MemDisk>, two: &mut Core<MemDisk>) -> (bool, bool)
     requires one { IsOf cache.now one.old }
@@ -213,7 +261,7 @@ fn on_threads<R: Threads + Sync>(rt: &R, made: Two, one: &Call, two: &Call) -> (
 #[test]
 fn a_handle_by_steps(rt: HostRuntime) -> Result<(), Fail> {
     let alloc = rt.alloc();
-    let mut made = two_cores(alloc)?;
+    let mut made = two_cores(alloc, &[])?;
     assert_eq!(rt;
         (made.one.core(), made.one.number(), made.one.left()),
         (0, 0, 4_294_967_295)
@@ -234,7 +282,7 @@ fn a_handle_by_steps(rt: HostRuntime) -> Result<(), Fail> {
 #[test]
 fn one_core_is_refused_by_another(rt: HostRuntime) -> Result<(), Fail> {
     let alloc = rt.alloc();
-    let mut made = two_cores(alloc)?;
+    let mut made = two_cores(alloc, &[])?;
     let call = mkdir(alloc, b"/a")?;
     let answers = refused(&made.cache, &mut made.one, &mut made.two, &call);
     let busy = CallFault::Busy {
@@ -258,7 +306,7 @@ fn one_core_is_refused_by_another(rt: HostRuntime) -> Result<(), Fail> {
 
 #[test]
 fn a_core_that_was_met_is_away(rt: HostRuntime) -> Result<(), Fail> {
-    let mut made = two_cores(rt.alloc())?;
+    let mut made = two_cores(rt.alloc(), &[])?;
     assert_eq!(rt;
         meets(&made.cache, &mut made.one, &mut made.two),
         (true, false)
@@ -269,8 +317,42 @@ fn a_core_that_was_met_is_away(rt: HostRuntime) -> Result<(), Fail> {
 #[test]
 fn two_cores_call_on_two_threads(rt: HostRuntime) -> Result<(), Fail> {
     let alloc = rt.alloc();
-    let made = two_cores(alloc)?;
+    let made = two_cores(alloc, &[])?;
     let (one, two) = (mkdir(alloc, b"/a")?, stat(alloc, b"/a")?);
     assert_eq!(rt; on_threads(&rt, made, &one, &two), (MANY, MANY));
+    Ok(())
+}
+
+/// That of two new cores, of which the first one's device fails at the calls with these numbers.
+fn commits_of(alloc: Global, failing: &[u64]) -> Result<(Committed, (u64, u64)), Fail> {
+    let made = two_cores(alloc, failing)?;
+    let (one, two) = (mkdir(alloc, b"/a")?, mkdir(alloc, b"/b")?);
+    Ok(calls_and_commits(made, &one, &two))
+}
+
+#[test]
+fn commits_of_two_cores(rt: HostRuntime) -> Result<(), Fail> {
+    let sound = Committed {
+        before: (0, 1),
+        first: Ok(0),
+        second: Err(CommitFault::Empty),
+        begun: Ok(()),
+        after: (1, 0),
+    };
+    assert_eq!(rt; commits_of(rt.alloc(), &[])?, (sound, (0, 1)));
+    Ok(())
+}
+
+#[test]
+fn a_core_whose_device_failed(rt: HostRuntime) -> Result<(), Fail> {
+    let failed = Committed {
+        before: (0, 1),
+        first: Err(CommitFault::DiskFault),
+        second: Err(CommitFault::Failed { core: 0 }),
+        begun: Err(BeginFault::Failed { core: 0 }),
+        after: (1, 0),
+    };
+    // The scan makes one call of the device, and then the third one of the commit fails.
+    assert_eq!(rt; commits_of(rt.alloc(), &[3])?, (failed, (0, 1)));
     Ok(())
 }

@@ -23,11 +23,11 @@ draw-ticket-requires-clause-clear c =
 
 pub draw-ticket-requires-clause-loaded : goal.draw-ticket-requires-clause-loaded
 draw-ticket-requires-clause-loaded c =
-    read_written c.args.cache.now.sizes c.args.pass.now c.args.taken.now c.requires.has c.args.written.now c.len-contents.ensures.contents c.requires.within c.store_all.new.pass c.store_all.ensures
+    read_written c.args.cache.now.sizes c.args.pass.now c.args.handle.now.taken c.requires.has c.args.written.now c.len-contents.ensures.contents c.requires.within c.store_all.new.pass c.store_all.ensures
 
 pub draw-ticket-requires-clause-passes : goal.draw-ticket-requires-clause-passes
 draw-ticket-requires-clause-passes c =
-    passes_written c.args.cache.now.sizes c.args.pass.now c.args.taken.now c.requires.has c.args.written.now c.len-contents.ensures.contents c.requires.within c.requires.keeps c.puts_are_one.ensures c.store_all.new.pass c.store_all.ensures
+    passes_written c.args.cache.now.sizes c.args.pass.now c.args.handle.now.taken c.requires.has c.args.written.now c.len-contents.ensures.contents c.requires.within c.requires.keeps c.puts_are_one.ensures c.store_all.new.pass c.store_all.ensures
 
 pub give_all-requires-clause-known : goal.give_all-requires-clause-known
 give_all-requires-clause-known c =
@@ -36,18 +36,18 @@ give_all-requires-clause-known c =
 pub give_all-requires-clause-held : goal.give_all-requires-clause-held
 give_all-requires-clause-held c b some =
     let p = c.args.pass.now in
-    let drew = drawn_pass c.args.cache.now.sizes p c.args.taken.now c.requires.has c.args.written.now c.len-contents.ensures.contents c.requires.within c.draw-ticket.result c.args.number c.store_all.new.pass c.draw-ticket.new.pass c.store_all.ensures c.draw-ticket.ensures.pass in
+    let drew = drawn_pass c.args.cache.now.sizes p c.args.handle.now.taken c.requires.has c.args.written.now c.len-contents.ensures.contents c.requires.within c.draw-ticket.result c.args.number c.store_all.new.pass c.draw-ticket.new.pass c.store_all.ensures c.draw-ticket.ensures.pass in
     ap (λ (k : Known). finmap.contains_key k.held b) (mine_is p c.draw-ticket.new.pass _ drew)
-    ∙ drawn_held c.args.cache.now.sizes p c.args.taken.now c.requires.has c.args.written.now c.len-contents.ensures.contents c.requires.within c.draw-ticket.result c.args.number b some
+    ∙ drawn_held c.args.cache.now.sizes p c.args.handle.now.taken c.requires.has c.args.written.now c.len-contents.ensures.contents c.requires.within c.draw-ticket.result c.args.number b some
 
 pub give_all-requires-clause-done : goal.give_all-requires-clause-done
 give_all-requires-clause-done c =
     let p = c.args.pass.now in
-    let drew = drawn_pass c.args.cache.now.sizes p c.args.taken.now c.requires.has c.args.written.now c.len-contents.ensures.contents c.requires.within c.draw-ticket.result c.args.number c.store_all.new.pass c.draw-ticket.new.pass c.store_all.ensures c.draw-ticket.ensures.pass in
+    let drew = drawn_pass c.args.cache.now.sizes p c.args.handle.now.taken c.requires.has c.args.written.now c.len-contents.ensures.contents c.requires.within c.draw-ticket.result c.args.number c.store_all.new.pass c.draw-ticket.new.pass c.store_all.ensures c.draw-ticket.ensures.pass in
     inl (ap (λ (k : Known). k.drawn) (mine_is p c.draw-ticket.new.pass _ drew)
-    ∙ drawn_done c.args.cache.now.sizes p c.args.taken.now c.requires.has c.args.written.now c.len-contents.ensures.contents c.requires.within c.draw-ticket.result c.args.number c.requires.some)
+    ∙ drawn_done c.args.cache.now.sizes p c.args.handle.now.taken c.requires.has c.args.written.now c.len-contents.ensures.contents c.requires.within c.draw-ticket.result c.args.number c.requires.some)
 
-pub returns : goal.returns
-returns c =
-    draws c.args.cache.now c.args.pass.now c.args.taken.now c.requires.has c.args.written.now c.len-contents.ensures.contents c.requires.within c.requires.some c.draw-ticket.result c.args.number
+pub returns-clause-draws : goal.returns-clause-draws
+returns-clause-draws c =
+    draws c.args.cache.now c.args.pass.now c.args.handle.now.taken c.requires.has c.args.written.now c.len-contents.ensures.contents c.requires.within c.requires.some c.draw-ticket.result c.args.number
     c.store_all.new.pass c.draw-ticket.new.pass c.give_all.new.pass c.store_all.ensures c.draw-ticket.ensures.pass c.give_all.ensures c.draw-ticket.ensures.history

@@ -1,8 +1,8 @@
-use Rattle.std.proofs.Common.{◌≡◌, ◌≢◌, ℕ, false, List, [], ◌∷◌, ◌++◌, refl, sym, ◌∙◌, subst, true≢false}
+use Rattle.std.proofs.Common.{◌≡◌, ◌≢◌, ℕ, false, List, [], ◌∷◌, ◌++◌, refl, sym, ap, ◌∙◌, subst, true≢false}
 use Rattle.std.proofs.lemmas.List.{same_from_push}
-use Rattle.zj_turns.specs.Views.{blank}
-use Rattle.zj_turns.specs.Passes.{CacheParameters, IsIdle, IsPeer, PassState, dealt, fresh}
-use Rattle.zj_turns.proofs.Lone.{fresh_idle, lone_alone}
+use Rattle.zj_turns.specs.Views.{Known, blank}
+use Rattle.zj_turns.specs.Passes.{CacheParameters, IsIdle, IsPeer, PassState, dealt, fresh, mine}
+use Rattle.zj_turns.proofs.Lone.{fresh_idle, lone_alone, lone_is}
 use Rattle.zj_core.proofs.tests.two_cores.Goals as goal
 
 -- the passes of two cores, the first one first
@@ -15,16 +15,30 @@ second_dealt f old new p is some = let s = same_from_push [] new (fresh f.table 
 idle : (f : CacheParameters) (core : ℕ) (p : PassState) → p ≡ fresh f.table core → IsIdle p.table p.core p
 idle f core p is = subst (λ (x : PassState). IsIdle x.table x.core x) (sym is) (fresh_idle f.table core)
 
-pub core_of-requires : goal.core_of-requires
-core_of-requires c =
+none : (f : CacheParameters) (core : ℕ) (p : PassState) → p ≡ fresh f.table core → (mine p).operations ≡ []
+none f core p is = ap (λ (k : Known). k.operations) (lone_is f.table core blank p is)
+
+pub core_of-requires-clause-idle : goal.core_of-requires-clause-idle
+core_of-requires-clause-idle c =
     let first = first_dealt c.in_ok-cache.cache c.in_ok-cache.passes c.next.new.self c.in-Some-Some.one c.in_ok-cache.ensures.passes c.in-Some-Some.ensures.some in
     idle c.in_ok-cache.cache 0 c.in-Some-Some.one first.1
 
-pub core_of-requires-2 : goal.core_of-requires-2
-core_of-requires-2 c =
+pub core_of-requires-2-clause-idle : goal.core_of-requires-2-clause-idle
+core_of-requires-2-clause-idle c =
     let first = first_dealt c.in_ok-cache.cache c.in_ok-cache.passes c.next.new.self c.in-Some-Some.one c.in_ok-cache.ensures.passes c.in-Some-Some.ensures.some in
     let second = second_dealt c.in_ok-cache.cache c.next.new.self c.next-2.new.self c.in-Some-Some.two first.0 c.in-Some-Some.ensures'.some in
     idle c.in_ok-cache.cache 1 c.in-Some-Some.two second
+
+pub core_of-requires-clause-none : goal.core_of-requires-clause-none
+core_of-requires-clause-none c =
+    let first = first_dealt c.in_ok-cache.cache c.in_ok-cache.passes c.next.new.self c.in-Some-Some.one c.in_ok-cache.ensures.passes c.in-Some-Some.ensures.some in
+    none c.in_ok-cache.cache 0 c.in-Some-Some.one first.1
+
+pub core_of-requires-2-clause-none : goal.core_of-requires-2-clause-none
+core_of-requires-2-clause-none c =
+    let first = first_dealt c.in_ok-cache.cache c.in_ok-cache.passes c.next.new.self c.in-Some-Some.one c.in_ok-cache.ensures.passes c.in-Some-Some.ensures.some in
+    let second = second_dealt c.in_ok-cache.cache c.next.new.self c.next-2.new.self c.in-Some-Some.two first.0 c.in-Some-Some.ensures'.some in
+    none c.in_ok-cache.cache 1 c.in-Some-Some.two second
 
 peer : (f : CacheParameters) (a b : ℕ) → b ≢ a → IsPeer (fresh f.table a) (fresh f.table b) false
 peer f a b apart = record { table = refl; apart = apart; alone = lone_alone f.table b blank (fresh f.table b) refl; away_is = refl; known = λ z. absurd (true≢false (sym z)) }

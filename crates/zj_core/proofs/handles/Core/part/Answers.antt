@@ -6,8 +6,8 @@ use Rattle.zj_core.proofs.handles.Core.part.Goals as goal
 
 pub invariant_of-self : goal.invariant_of-self
 invariant_of-self g c =
-    core_parts c.self.inside.pass c.other.inside.pass c.part.new.pass c.self.inside.area c.self.inside.sizes c.self.inside.handle c.self.invariant c.args.self.now.pass c.args.other.now.pass true
+    core_parts c.self.inside.pass c.other.inside.pass c.part.new.pass c.self.inside.area c.self.inside.sizes c.self.inside.handle c.self.inside.running c.self.invariant c.args.self.now.pass c.args.other.now.pass true
     (ap (λ (x : CoreState g.row.D.Denot). x.pass) c.self.view_is) (ap (λ (x : CoreState g.row.D.Denot). x.pass) c.other.view_is) c.requires.peer c.part.ensures.pass
 
 pub invariant_of-other : goal.invariant_of-other
-invariant_of-other g c = core_moves c.other.inside.pass c.part.new.other c.other.inside.area c.other.inside.sizes c.other.inside.handle false c.other.invariant c.part.ensures.other
+invariant_of-other g c = core_moves c.other.inside.pass c.part.new.other c.other.inside.area c.other.inside.sizes c.other.inside.handle c.other.inside.running false c.other.invariant c.part.ensures.other
