@@ -187,6 +187,7 @@ module _ (cache : CacheParameters) (sizes : Numbers) (m : PassState) (running : 
     reply = reply;
     written = written;
     performs = performs_same sizes found (entries_held (mine m)) (λ b. held_under (mine m) b ∙ sym (has.same b)) written call reply performs;
+    read = has.read;
     have_is = cause.0;
     more_is = more_is;
     past = let rest = cause.2 in omega (arith, rest, more_is);

@@ -148,13 +148,14 @@ abbrev pub IsTakeCause : CacheParameters → Numbers → PassState → Call → 
 IsTakeCause cache sizes p call (takes.Busy block holder) = NeedsNext sizes p call block × IsMissed cache p block (takes.Busy block holder)
 IsTakeCause cache sizes p call takes.NoMemory = ⊤
 
--- Some reply and new contents perform a call on the blocks that are held, and with the new ones among these the running transaction
--- would have more blocks than a record.
+-- Some reply and new contents perform a call on the blocks that are held, which were loaded whole, and with the new ones among these the
+-- running transaction would have more blocks than a record.
 pub record HasNoRoom (sizes : Numbers) (p : PassState) (running : Transaction) (call : Call) (have more : ℕ) : Type 0 where
   pub root : holds p (root_block sizes) ≡ true
   pub reply : Reply
   pub written : Contents
   pub performs : Performs sizes (entries_held (mine p)) written call reply
+  pub read : (b : ℕ) (h : Hold) → finmap.get (mine p).held b ≡ Some h → IsRead h
   pub have_is : have ≡ length running.parts
   pub more_is : more ≡ new_count running.parts written
   pub past : MAX_RECORD_BLOCKS < have + more
