@@ -3,8 +3,10 @@ use Rattle.std.proofs.Common.{◌≡◌, ℕ, zero, suc, ◌+◌, ◌-◌, ◌<�
 use Rattle.std.proofs.lemmas.List.{map-append, reverse-append, same_from_push}
 use Rattle.zj_area.specs.Journal.{AreaView}
 use Rattle.zj_block.specs.Sizes.{Numbers}
-use Rattle.zj_turns.specs.Passes.{CacheParameters, IsIdle, PassState, dealt, fresh}
-use Rattle.zj_turns.proofs.Lone.{fresh_idle}
+use Rattle.zj_tx.specs.Running.{empty_transaction}
+use Rattle.zj_turns.specs.Passes.{CacheParameters, IsIdle, PassState, dealt, fresh, mine}
+use Rattle.zj_turns.specs.Views.{Known, blank}
+use Rattle.zj_turns.proofs.Lone.{fresh_idle, lone_is}
 use Rattle.zj_core.specs.Core.{CoreState, IsReady}
 use Rattle.zj_session.specs.Playing.{AreIdle, AreJournals, journals_of}
 use Rattle.zj_session.specs.Starting.{AreFresh, IsFresh}
@@ -51,16 +53,20 @@ module _ (cache : CacheParameters) (n core : ℕ) (low : core < n) where
 pub idle_fresh : (cache : CacheParameters) (core : ℕ) (p : PassState) → p ≡ fresh cache.table core → IsIdle p.table p.core p
 idle_fresh cache core p is = subst (λ (q : PassState). IsIdle q.table q.core q) (sym is) (fresh_idle cache.table core)
 
+pub none_fresh : (cache : CacheParameters) (core : ℕ) (p : PassState) → p ≡ fresh cache.table core → (mine p).operations ≡ []
+none_fresh cache core p is = ap (λ (k : Known). k.operations) (lone_is cache.table core blank p is)
+
 pub idle_all : {D : Type 0} (cache : CacheParameters) (sizes : Numbers) (cores : List (CoreState D)) → AreFresh cache sizes cores → AreIdle cores
 idle_all {D} cache sizes cores each = all_at (λ (c : CoreState D). c.begun ≡ None) cores (λ i c at. (each i c at).idle)
 
 -- one core more, which is made of a pass that was dealt and a journal
-module _ {D : Type 0} (cache : CacheParameters) (sizes : Numbers) (cores : List (CoreState D)) (n : ℕ) (long : length cores ≡ n) (c : CoreState D) (p : PassState) (a : AreaView D) (made : c ≡ record { pass = p; area = a; sizes = sizes; begun = None }) where
+module _ {D : Type 0} (cache : CacheParameters) (sizes : Numbers) (cores : List (CoreState D)) (n : ℕ) (long : length cores ≡ n) (c : CoreState D) (p : PassState) (a : AreaView D) (made : c ≡ record { pass = p; area = a; sizes = sizes; begun = None; running = empty_transaction p.core sizes.cores a.end.number }) where
   made_fresh : p ≡ fresh cache.table n → IsFresh cache sizes n c
   made_fresh own = record {
     pass = ap (λ (d : CoreState D). d.pass) made ∙ own;
     sizes_are = ap (λ (d : CoreState D). d.sizes) made;
     idle = ap (λ (d : CoreState D). d.begun) made;
+    running = ap (λ (d : CoreState D). d.running) made ∙ (λ i. empty_transaction ((own i).core) sizes.cores (sym made i).area.end.number);
   }
 
   pub fresh_more : p ≡ fresh cache.table n → (later : List (CoreState D)) → later ≡ cores ++ c ∷ [] → AreFresh cache sizes cores → AreFresh cache sizes later
@@ -82,7 +88,7 @@ module _ {D : Type 0} (cores : List (CoreState D)) (rest waiting areas : List (A
   own_journal sizes n long each =
       subst (λ o. IfSome o (λ (area : AreaView D). (area.core ≡ n) × (area.sizes ≡ sizes) × IsReady area)) (at_front (journals_of cores) (reverse rest) areas a n (journals_long cores ∙ long) next_out) (each n)
 
-  pub journals_more : (c : CoreState D) (p : PassState) (sizes : Numbers) → c ≡ record { pass = p; area = a; sizes = sizes; begun = None } → (later : List (CoreState D)) → later ≡ cores ++ c ∷ [] → journals_of later ++ reverse rest ≡ areas
+  pub journals_more : (c : CoreState D) (p : PassState) (sizes : Numbers) → c ≡ record { pass = p; area = a; sizes = sizes; begun = None; running = empty_transaction p.core sizes.cores a.end.number } → (later : List (CoreState D)) → later ≡ cores ++ c ∷ [] → journals_of later ++ reverse rest ≡ areas
   journals_more c p sizes made later put =
       ap (λ (l : List (CoreState D)). journals_of l ++ reverse rest) put
       ∙ ap (λ l. l ++ reverse rest) (map-append (λ (d : CoreState D). d.area) cores (c ∷ [])) ∙ append_assoc (journals_of cores) (c.area ∷ []) (reverse rest)

@@ -1,8 +1,9 @@
 -- Cores of which nothing has happened serve calls.
-use Rattle.std.proofs.Common.{◌≡◌, ◌≢◌, ℕ, ◌<◌, true, true≢false, is_some, List, [], ◌∷◌, length, Some, sym, ap, ◌∙◌, subst, arith, length-append}
+use Rattle.std.proofs.Common.{◌≡◌, ◌≢◌, ℕ, ◌<◌, true, true≢false, is_some, List, [], ◌∷◌, length, ◌≤◌, option_map, IfSome, All, Some, slice_get, sym, ap, ◌∙◌, subst, arith, length-append}
 use Rattle.std.specs.Ordering.{nat_cmp}
 use Rattle.std.specs.FinMap as finmap
 use Rattle.std.proofs.lemmas.List.Elements.{All-nil}
+use Rattle.std.proofs.lemmas.Option.{slice_get-map}
 use Rattle.std.proofs.Math.Seq.{take-nil}
 use Rattle.zj_block.specs.Sizes.{Numbers}
 use Rattle.zj_history.specs.Operation.{Operation}
@@ -14,9 +15,15 @@ use Rattle.zj_turns.specs.CacheHistory.{IsCacheHistory}
 use Rattle.zj_turns.specs.Views.{Hold, Known, alone, blank}
 use Rattle.zj_turns.specs.Passes.{CacheParameters, IsMadeWith, PassState, holds, mine}
 use Rattle.zj_turns.proofs.Lone.{lone_alone, lone_is}
-use Rattle.zj_core.specs.Core.{CoreState, IsOf, IsSteady}
+use Rattle.zj_core.specs.Core.{CoreState, IsOf, IsReady, IsSteady, Runs}
+use Rattle.zj_area.specs.Journal.{AreaView}
+use Rattle.zj_history.specs.Transactions.{operations_of}
+use Rattle.zj_tx.specs.Frozen.{image_in}
+use Rattle.zj_tx.specs.Record.{Ascends}
+use Rattle.zj_tx.specs.Running.{Keeps, Transaction}
+use Rattle.zj_tx.proofs.FrozenLemmas.{nothing_kept}
 use Rattle.zj_mount.specs.Recovered.{Restored}
-use Rattle.zj_session.specs.Playing.{IsAtRest}
+use Rattle.zj_session.specs.Playing.{AreJournals, IsAtRest, journals_of}
 use Rattle.zj_session.specs.Service.{AreTogether, HasHistory, IsService}
 use Rattle.zj_session.specs.Starting.{AreFresh, IsFresh}
 use Rattle.zj_session.proofs.Cores.{idle_all}
@@ -46,14 +53,40 @@ module _ {D : Type 0} (cache : CacheParameters) (sizes : Numbers) (i : ℕ) (c :
   pub fresh_alone : c.pass.view ≡ alone c.pass.view c.pass.core
   fresh_alone = lone_alone cache.table i blank c.pass fresh.pass
 
-  pub fresh_steady : IsSteady c
-  fresh_steady = record {
-    clear = ap (λ (k : Known). k.drawn) is_blank;
-    read = λ b h at. absurd (holds_none b h at);
-    idle = λ _. ap (λ (k : Known). k.held) is_blank;
-    root = λ b held. absurd (free b held);
-    possible = λ b held. absurd (free b held);
-  }
+  -- with its own journal, which is ready
+  module _ (own : (c.area.core ≡ i) × (c.area.sizes ≡ sizes) × IsReady c.area) where
+    runs : Runs c
+    runs = record {
+      core = ap (λ (t : Transaction). t.core) fresh.running ∙ sym core_is;
+      cores = ap (λ (t : Transaction). t.cores) fresh.running ∙ ap (λ (n : Numbers). n.cores) (sym fresh.sizes_are);
+      keeps = subst (λ (x : List Operation × Transaction). Keeps (operations_of x.0 (record { core = c.pass.core; number = x.1.number })) x.1)
+          (λ j. ((sym is_blank j).operations, sym fresh.running j)) (nothing_kept i sizes.cores c.area.end.number);
+      none_later = subst (All (λ (o : Operation). (o.core ≡ c.pass.core) × (o.number ≤ c.running.number))) (ap (λ (k : Known). k.operations) (sym is_blank)) (All-nil (λ (o : Operation). (o.core ≡ c.pass.core) × (o.number ≤ c.running.number)));
+      ascending = subst (λ (t : Transaction). Ascends 0 t.parts) (sym fresh.running) tt;
+      within = λ block some. absurd (true≢false (sym some ∙ ap (λ (t : Transaction). is_some (image_in t.parts block)) fresh.running));
+      number = λ _. ap (λ (t : Transaction). t.number) fresh.running;
+      fits = λ _ some. absurd (some (ap (λ (t : Transaction). t.handles) fresh.running));
+      over = λ _. ap (λ (t : Transaction). t.handles) fresh.running;
+    }
+
+    pub fresh_steady : IsSteady c
+    fresh_steady = record {
+      may = λ some. absurd (true≢false (sym some ∙ ap is_some fresh.idle));
+      runs = runs;
+      journal = record { core = own.0 ∙ sym core_is; sizes_are = own.1 ∙ sym fresh.sizes_are; ready = own.2.ready; empty = own.2.empty };
+      clear = ap (λ (k : Known). k.drawn) is_blank;
+      read = λ b h at. absurd (holds_none b h at);
+      idle = λ _. ap (λ (k : Known). k.held) is_blank;
+      root = λ b held. absurd (free b held);
+      possible = λ b held. absurd (free b held);
+    }
+
+-- the journal of a core at its place
+pub area_at : {D : Type 0} (cores : List (CoreState D)) (i : ℕ) (c : CoreState D) → slice_get cores i ≡ Some c → slice_get (journals_of cores) i ≡ Some c.area
+area_at {D} cores i c at = slice_get-map (λ (d : CoreState D). d.area) cores i ∙ ap (option_map (λ (d : CoreState D). d.area)) at
+
+pub own_at : {D : Type 0} (cores : List (CoreState D)) (sizes : Numbers) → AreJournals sizes (journals_of cores) → (i : ℕ) (c : CoreState D) → slice_get cores i ≡ Some c → (c.area.core ≡ i) × (c.area.sizes ≡ sizes) × IsReady c.area
+own_at {D} cores sizes own i c at = subst (λ o. IfSome o (λ (area : AreaView D). (area.core ≡ i) × (area.sizes ≡ sizes) × IsReady area)) (area_at cores i c at) (own i)
 
 -- a history without operations
 none_legal : (start : BlockState) → IsLegal start []
@@ -87,12 +120,13 @@ module _ {D : Type 0} (cache : CacheParameters) (sizes : Numbers) (cores : List 
     loaded = λ i b c h at held. absurd (holds_none cache sizes i c (fresh i c at) b h held);
   }
 
-  pub fresh_service : ShowsSome cache.sizes cache.start → length cores ≡ cache.cores → IsService cache cores []
-  fresh_service shows all = record {
+  pub fresh_service : ShowsSome cache.sizes cache.start → length cores ≡ cache.cores → cache.cores ≡ cache.sizes.cores → AreJournals sizes (journals_of cores) → IsService cache cores []
+  fresh_service shows all as_sizes own = record {
     together = fresh_together;
     many = all;
+    as_sizes = as_sizes;
     numbered = λ i c at. core_is cache sizes i c (fresh i c at);
-    steady = all_at IsSteady cores (λ i c at. fresh_steady cache sizes i c (fresh i c at));
+    steady = all_at IsSteady cores (λ i c at. fresh_steady cache sizes i c (fresh i c at) (own_at cores sizes own i c at));
     one_root = λ i j c d here there one other. absurd (free cache sizes i c (fresh i c here) _ one);
     has = fresh_has shows;
   }

@@ -1,11 +1,12 @@
 -- The least number of tickets that one of several cores may still draw.
-use Rattle.std.proofs.Common.{◌≡◌, ◌⊎◌, inr, ⊎_elim, ℕ, ◌+◌, ◌<◌, ◌≤◌, min, List, length, get_or, Some, slice_get, All, sym, ap, ◌∙◌, subst, arith}
+use Rattle.std.proofs.Common.{◌≡◌, ◌⊎◌, inl, inr, ⊎_elim, ℕ, ◌+◌, ◌<◌, ◌≤◌, min, List, [], length, get_or, Some, slice_get, All, sym, ap, ◌∙◌, subst, arith}
 use mathlib.Core.Logic.{dite}
 use native.Mathlib.Decide.{ℕ_discrete}
 use Rattle.std.proofs.lemmas.Option.{slice_get-get_or, slice_get_within}
 use Rattle.zj_layout.proofs.Follow.{some_is}
 use Rattle.zj_turns.specs.Passes.{left_of}
 use Rattle.zj_core.specs.Core.{CoreState}
+use Rattle.zj_session.proofs.Cores.{none_long}
 use Rattle.zj_session.proofs.Lists.{all_at}
 
 -- it is no more than that of the first n cores
@@ -45,3 +46,6 @@ pub at_most_all : {D : Type 0} (cores items : List (CoreState D)) → items ≡ 
 at_most_all {D} cores items same n least over each =
     let long = ap length same in
     all_at (λ (c : CoreState D). least ≤ left_of c.pass) cores (λ i c at. let within = slice_get_within cores i c at in each i c (omega arith) at)
+
+pub of_one_all : {D : Type 0} (cores items : List (CoreState D)) → items ≡ cores → (n least : ℕ) → length items ≤ n → IsOfOne cores n least → (cores ≡ []) ⊎ ((i : ℕ) × (c : CoreState D) × (slice_get cores i ≡ Some c) × (left_of c.pass ≡ least))
+of_one_all cores items same n least over one = ⊎_elim (λ r. inl (none_long cores (let long = ap length same in let none = r.0 in omega arith))) (λ r. inr r) one

@@ -1,6 +1,8 @@
 -- All cores once a line was answered on one of them.
 use Rattle.std.proofs.Common.{◌≡◌, ◌⊎◌, inl, inr, ℕ, ◌+◌, List, [], ◌∷◌, ◌++◌, length, drop, set, refl, sym, ap, ◌∙◌, subst, Some, None, Result, Ok, Err, IfOk, OnErr, slice_get, slice_set}
 use Rattle.std.proofs.Math.Seq.{drop-append-add, set-append_seam, take-append_seam}
+use Rattle.zj_area.specs.Journal.{AreaView}
+use Rattle.zj_dev.specs.Disk.{DiskView}
 use Rattle.zj_script.specs.declared.line.Act.{Act}
 use Rattle.zj_script.specs.declared.answer.Form.{Form}
 use Rattle.zj_turns.specs.Views.{Has, Known}
@@ -8,9 +10,11 @@ use Rattle.zj_turns.specs.Passes.{CacheParameters, PassState, mine, now_knowing}
 use Rattle.zj_core.specs.Core.{CoreState, IsSteady}
 use Rattle.zj_core.specs.Steps.{emptied}
 use Rattle.zj_core.proofs.Knowing.{knowing_same, mine_now}
-use Rattle.zj_session.specs.Answering.{Does, IsAnswered, IsLeftOff, others_than, without_handle}
+use Rattle.zj_session.specs.Answering.{DeviceGoesOn, Does, IsAnswered, IsLeftOff, OnlyOwn, others_than, without_handle}
 use Rattle.zj_session.specs.Gathering.{gathered, passes_of}
+use Rattle.zj_session.specs.Playing.{JournalsGoOn, journals_of}
 use Rattle.zj_session.specs.Service.{AreTogether}
+use Rattle.zj_session.proofs.Devices.{GoesOnAs, go_on_set}
 
 -- the cores around one
 pub split_is : {D : Type 0} (old front rest back : List (CoreState D)) (core : CoreState D) → old ≡ front ++ rest → rest ≡ core ∷ back → old ≡ front ++ core ∷ back
@@ -62,14 +66,21 @@ module _ {D : Type 0} (cache : CacheParameters) (old front back : List (CoreStat
     back_in y is = λ i. front_is i ++ is i ∷ back_is i
 
     -- the line is answered
-    pub answered : (act : Act) (form : Form) → Does cache core₂ core₃ core₂.begun act form → IsAnswered cache old (front₂ ++ core₅ ∷ back₂) at act form
-    answered act form does = record {
+    pub answered : (view : D → DiskView) (act : Act) (form : Form) → Does view cache core₂ core₃ core₂.begun act form → IsAnswered view cache old (front₂ ++ core₅ ∷ back₂) at act form
+    answered view act form does = record {
       core = core;
       at_place = ap (λ (l : List (CoreState D)). slice_get l at) split ∙ seam_get front back core at count;
       after = core₃;
-      does = subst (λ (c : CoreState D). Does cache c core₃ c.begun act form) (met ∙ ap (λ (l : List (CoreState D)). record core { pass = gathered core.pass (passes_of l) }) (sym others_is)) does;
+      does = subst (λ (c : CoreState D). Does view cache c core₃ c.begun act form) (met ∙ ap (λ (l : List (CoreState D)). record core { pass = gathered core.pass (passes_of l) }) (sym others_is)) does;
       cores = back_in (record core₃ { pass = now_knowing core.pass (mine core₃.pass) }) parted ∙ placed (record core₃ { pass = now_knowing core.pass (mine core₃.pass) });
     }
+
+    -- each journal goes on
+    pub journals_on : (view : D → DiskView) → OnlyOwn core₂ core₃ → DeviceGoesOn view core₂ core₃ → JournalsGoOn view (journals_of old) (journals_of (front₂ ++ core₅ ∷ back₂))
+    journals_on view only device =
+        subst (λ (l : List (CoreState D)). JournalsGoOn view (journals_of old) (journals_of l)) (sym (back_in core₅ refl ∙ placed core₅))
+        (go_on_set view old at core core₅ (ap (λ (l : List (CoreState D)). slice_get l at) split ∙ seam_get front back core at count)
+        (subst (λ (x : AreaView D × AreaView D). GoesOnAs view x.0 x.1) (λ i. ((met i).area, (sym parted i).area)) (ap (λ (c : CoreState D). c.area) only, device)))
 
     -- or there was no memory for it
     pub left_off : Has core.pass.view core.pass.core → mine core₂.pass ≡ mine core.pass → (core₃ ≡ core₂) ⊎ (core₃ ≡ without_handle core₂) → IsLeftOff old (front₂ ++ core₅ ∷ back₂) at

@@ -1,4 +1,4 @@
--- What stays behind a line: the cores are together, each with its journal, and each has a draw less at most.
+-- What stays behind a line: the cores are together, and each has a draw less at most.
 use Rattle.std.proofs.Common.{◌≡◌, ◌≢◌, ⊎_elim, ℕ, zero, suc, ◌+◌, ◌<◌, ◌≤◌, List, [], ◌∷◌, ◌++◌, length, map, get_or, take, drop, Option, Some, None, slice_get, slice_set, add-one, AllPairs, refl, sym, ap, ◌∙◌, subst, arith}
 use Rattle.std.proofs.lemmas.List.{length-append}
 use Rattle.std.proofs.lemmas.Option.{get_or_from_slice_get, slice_get_within}
@@ -6,21 +6,24 @@ use Rattle.std.specs.FinMap as finmap
 use mathlib.Core.Logic.{dite}
 use native.Mathlib.Decide.{ℕ_discrete}
 use Rattle.zj_block.specs.Sizes.{Numbers}
+use Rattle.zj_dev.specs.Disk.{DiskView}
 use Rattle.zj_history.specs.Operation.{Operation}
 use Rattle.zj_layout.proofs.Follow.{none_some, some_is}
 use Rattle.zj_script.specs.declared.line.Act.{Act}
 use Rattle.zj_script.specs.declared.line.Act.TheVariants as acts
 use Rattle.zj_script.specs.declared.answer.Form.{Form}
 use Rattle.zj_script.specs.declared.answer.Form.TheVariants as forms
+use Rattle.zj_script.specs.declared.answer.SyncForm.TheVariants as syncs
 use Rattle.zj_tree.specs.declared.call.Call.{Call}
+use Rattle.zj_tx.specs.Record.{Record}
 use Rattle.zj_turns.specs.Views.{Known, View, alone, blank, known_in, knowing}
 use Rattle.zj_turns.specs.Passes.{CacheParameters, PassState, left_of, mine, now_knowing}
 use Rattle.zj_turns.proofs.Again.{insert_again, known_after}
+use Rattle.zj_core.specs.Committing.{Seals}
 use Rattle.zj_core.specs.Core.{CoreState, IsOf}
 use Rattle.zj_core.specs.Steps.{emptied, with_operation}
 use Rattle.zj_core.proofs.Knowing.{active_now, mine_is, mine_now}
 use Rattle.zj_session.specs.Answering.{Does, DoesIdle, DoesOpen, IsAnswered, IsLeftOff, met_all, without_handle}
-use Rattle.zj_session.specs.Playing.{journals_of}
 use Rattle.zj_session.specs.Service.{AreTogether}
 use Rattle.zj_session.proofs.Lists.{all_at, at_all, pairs_at, set_else, set_here}
 use Rattle.zj_session.proofs.Together.{mine_met}
@@ -53,12 +56,11 @@ map_set f (z ∷ xs) (suc i) x y at same = ap (λ l. f z ∷ l) (map_set f xs i 
 
 -- ---- a core that goes on
 
--- It has its sizes and its journal still, and knows something else of itself.
+-- It has its sizes still, and knows something else of itself.
 pub record WentOn {D : Type 0} (old new : CoreState D) : Type 0 where
   pub known : Known
   pub pass : new.pass ≡ now_knowing old.pass known
   pub sizes : new.sizes ≡ old.sizes
-  pub area : new.area ≡ old.area
 
 -- it knows of no core but its own
 abbrev pub IsLone : PassState → Type 0
@@ -116,51 +118,61 @@ module _ {D : Type 0} (cache : CacheParameters) (old : List (CoreState D)) (at :
 
 -- ---- what an act does
 
--- It changes neither sizes nor journal of its core, which has one operation more at most.
+-- It leaves its core its sizes, and that has one operation more at most.
 pub record ChangesLittle {D : Type 0} (old new : CoreState D) : Type 0 where
   pub sizes : new.sizes ≡ old.sizes
-  pub area : new.area ≡ old.area
   pub few : length (mine new.pass).operations ≤ length (mine old.pass).operations + 1
 
-module _ {D : Type 0} (cache : CacheParameters) (old new : CoreState D) where
-  little : new.sizes ≡ old.sizes → new.area ≡ old.area → (mine new.pass).operations ≡ (mine old.pass).operations → ChangesLittle old new
-  little sizes area same = record { sizes = sizes; area = area; few = let counts = ap (length {A = Operation}) same in omega arith }
+module _ {D : Type 0} (view : D → DiskView) (cache : CacheParameters) (old new : CoreState D) where
+  little : new.sizes ≡ old.sizes → (mine new.pass).operations ≡ (mine old.pass).operations → ChangesLittle old new
+  little sizes same = record { sizes = sizes; few = let counts = ap (length {A = Operation}) same in omega arith }
 
   same_core : new ≡ old → ChangesLittle old new
-  same_core is = little (ap (λ (c : CoreState D). c.sizes) is) (ap (λ (c : CoreState D). c.area) is) (ap (λ (c : CoreState D). (mine c.pass).operations) is)
+  same_core is = little (ap (λ (c : CoreState D). c.sizes) is) (ap (λ (c : CoreState D). (mine c.pass).operations) is)
 
-  one_more : (operation : Operation) → new.sizes ≡ old.sizes → new.area ≡ old.area → new.pass ≡ now_knowing old.pass (with_operation (mine old.pass) operation) → ChangesLittle old new
-  one_more operation sizes area is = record {
+  sealed : (r : Record) → Seals view old new r → ChangesLittle old new
+  sealed r seals = little (ap (λ (c : CoreState D). c.sizes) seals.next) (ap (λ (c : CoreState D). (mine c.pass).operations) seals.next)
+
+  one_more : (operation : Operation) → new.sizes ≡ old.sizes → new.pass ≡ now_knowing old.pass (with_operation (mine old.pass) operation) → ChangesLittle old new
+  one_more operation sizes is = record {
     sizes = sizes;
-    area = area;
     few =
         let counts = ap (λ (k : Known). length k.operations) (mine_is old.pass new.pass (with_operation (mine old.pass) operation) is) in
         let more = length-append (mine old.pass).operations (operation ∷ []) in
         omega arith;
   }
 
-  idle_little : (act : Act) (form : Form) → DoesIdle cache old new act form → ChangesLittle old new
-  idle_little (acts.Call call) (forms.Drew ticket reply) d = one_more d.0.operation (ap (λ (c : CoreState D). c.sizes) d.1) (ap (λ (c : CoreState D). c.area) d.1) d.0.pass
+  idle_little : (act : Act) (form : Form) → DoesIdle view cache old new act form → ChangesLittle old new
+  idle_little (acts.Call call) (forms.Drew ticket reply) d = one_more d.1.operation (ap (λ (c : CoreState D). c.sizes) d.3) d.1.pass
   idle_little (acts.Call call) (forms.Busy block holder) d = same_core d.1
-  idle_little (acts.Begin call) forms.Begun d = little (ap (λ (c : CoreState D). c.sizes) d) (ap (λ (c : CoreState D). c.area) d) (ap (λ (c : CoreState D). (mine c.pass).operations) d)
+  idle_little (acts.Call call) (forms.TxFull have more) d = same_core d.1
+  idle_little (acts.Call call) form d = same_core d.1
+  idle_little (acts.Begin call) forms.Begun d = little (ap (λ (c : CoreState D). c.sizes) d.1) (ap (λ (c : CoreState D). (mine c.pass).operations) d.1)
+  idle_little (acts.Begin call) form d = same_core d.1
+  idle_little acts.Commit (forms.Committed number) d = sealed d.1.sealed_as d.1.seals
+  idle_little acts.Commit forms.Empty d = same_core d.2
+  idle_little acts.Commit (forms.Sync (syncs.Failed core)) d = same_core d.2
+  idle_little acts.Commit (forms.Sync (syncs.Fault device)) d = sealed d.1.sealed_as d.1.seals
   idle_little acts.Take forms.Order d = same_core d
   idle_little acts.Stop forms.Order d = same_core d
   idle_little acts.Drop forms.Order d = same_core d
   idle_little act form d = absurd d
 
   open_little : (begun : Call) (act : Act) (form : Form) → DoesOpen cache old new begun act form → ChangesLittle old new
-  open_little begun acts.Take (forms.Took block) d = little (ap (λ (c : CoreState D). c.sizes) d.1) (ap (λ (c : CoreState D). c.area) d.1) d.0.takes.more.operations
+  open_little begun acts.Take (forms.Took block) d = little (ap (λ (c : CoreState D). c.sizes) d.1) d.0.takes.more.operations
   open_little begun acts.Take forms.Ready d = same_core d.1
   open_little begun acts.Take (forms.Busy block holder) d = same_core d.1
-  open_little begun acts.Stop (forms.Drew ticket reply) d = one_more d.0.operation (ap (λ (c : CoreState D). c.sizes) d.1) (ap (λ (c : CoreState D). c.area) d.1) d.0.pass
-  open_little begun acts.Stop (forms.Busy block holder) d = little (ap (λ (c : CoreState D). c.sizes) d.3) (ap (λ (c : CoreState D). c.area) d.3) d.0.more.operations
-  open_little begun acts.Drop forms.Dropped d = little (ap (λ (c : CoreState D). c.sizes) d) (ap (λ (c : CoreState D). c.area) d)
+  open_little begun acts.Stop (forms.Drew ticket reply) d = one_more d.0.operation (ap (λ (c : CoreState D). c.sizes) d.2) d.0.pass
+  open_little begun acts.Stop (forms.Busy block holder) d = little (ap (λ (c : CoreState D). c.sizes) d.3) d.0.more.operations
+  open_little begun acts.Stop (forms.TxFull have more) d = little (ap (λ (c : CoreState D). c.sizes) d.3) d.0.more.operations
+  open_little begun acts.Drop forms.Dropped d = little (ap (λ (c : CoreState D). c.sizes) d)
       (ap (λ (c : CoreState D). (mine c.pass).operations) d ∙ ap (λ (k : Known). k.operations) (mine_now old.pass (emptied (mine old.pass))))
   open_little begun (acts.Call call) forms.Order d = same_core d
   open_little begun (acts.Begin call) forms.Order d = same_core d
+  open_little begun acts.Commit forms.Order d = same_core d
   open_little begun act form d = absurd d
 
-  does_little : (begun : Option Call) (act : Act) (form : Form) → Does cache old new begun act form → ChangesLittle old new
+  does_little : (begun : Option Call) (act : Act) (form : Form) → Does view cache old new begun act form → ChangesLittle old new
   does_little None act form d = idle_little act form d
   does_little (Some call) act form d = open_little call act form d
 
@@ -170,7 +182,7 @@ module _ {D : Type 0} (cache : CacheParameters) (old new : CoreState D) where
 abbrev pub HaveLeft : {D : Type 0} → ℕ → List (CoreState D) → Type 0
 HaveLeft {D} n cores = (i : ℕ) (c : CoreState D) → slice_get cores i ≡ Some c → n ≤ left_of c.pass
 
-module _ {D : Type 0} (cache : CacheParameters) (old new : List (CoreState D)) (at : ℕ) (act : Act) (form : Form) (together : AreTogether cache old) (answered : IsAnswered cache old new at act form) where
+module _ {D : Type 0} (view : D → DiskView) (cache : CacheParameters) (old new : List (CoreState D)) (at : ℕ) (act : Act) (form : Form) (together : AreTogether cache old) (answered : IsAnswered view cache old new at act form) where
   abbrev core : CoreState D
   core = answered.core
 
@@ -184,16 +196,13 @@ module _ {D : Type 0} (cache : CacheParameters) (old new : List (CoreState D)) (
   met_same = mine_met cache (take at old) (drop (at + 1) old) core split
 
   changes : ChangesLittle (met_all at old core) answered.after
-  changes = does_little cache (met_all at old core) answered.after core.begun act form answered.does
+  changes = does_little view cache (met_all at old core) answered.after core.begun act form answered.does
 
   went : WentOn core gone
-  went = record { known = mine answered.after.pass; pass = refl; sizes = changes.sizes; area = changes.area }
+  went = record { known = mine answered.after.pass; pass = refl; sizes = changes.sizes }
 
   pub answered_together : AreTogether cache new
   answered_together = subst (AreTogether cache) (sym answered.cores) (together_set cache old at core gone answered.at_place went together)
-
-  pub answered_journals : journals_of new ≡ journals_of old
-  answered_journals = ap journals_of answered.cores ∙ map_set (λ (c : CoreState D). c.area) old at core gone answered.at_place changes.area
 
   few : length (mine gone.pass).operations ≤ length (mine core.pass).operations + 1
   few =
@@ -211,17 +220,11 @@ module _ {D : Type 0} (cache : CacheParameters) (old new : List (CoreState D)) (
 -- ---- a line that ran out of memory
 
 pub went_off : {D : Type 0} (core : CoreState D) → WentOn core (without_handle core)
-went_off core = record { known = emptied (mine core.pass); pass = refl; sizes = refl; area = refl }
+went_off core = record { known = emptied (mine core.pass); pass = refl; sizes = refl }
 
 module _ {D : Type 0} (cache : CacheParameters) (old new : List (CoreState D)) (at : ℕ) (off : IsLeftOff old new at) where
   pub off_together : AreTogether cache old → AreTogether cache new
   off_together together = ⊎_elim
       (λ same. subst (AreTogether cache) (sym same) together)
       (λ dropped. subst (AreTogether cache) (sym dropped.2) (together_set cache old at dropped.0 (without_handle dropped.0) dropped.1 (went_off dropped.0) together))
-      off
-
-  pub off_journals : journals_of new ≡ journals_of old
-  off_journals = ⊎_elim
-      (λ same. ap journals_of same)
-      (λ dropped. ap journals_of dropped.2 ∙ map_set (λ (c : CoreState D). c.area) old at dropped.0 (without_handle dropped.0) dropped.1 refl)
       off

@@ -1,17 +1,19 @@
 -- Cores of which each handle that was open is dropped: they serve calls still, and no handle is open.
-use Rattle.std.proofs.Common.{◌≡◌, ◌≢◌, ⊎_elim, ℕ, ◌+◌, ◌<◌, true, false, true≢false, is_some, List, [], ◌∷◌, ◌++◌, length, map, take, drop, get_or, set, add-one, Option, Some, None, slice_get, refl, sym, ap, ◌∙◌, subst}
+use Rattle.std.proofs.Common.{◌≡◌, ◌≢◌, ⊎_elim, ℕ, ◌+◌, ◌<◌, ◌≤◌, true, false, true≢false, is_some, List, [], ◌∷◌, ◌++◌, length, map, take, drop, get_or, set, add-one, Option, Some, None, slice_get, refl, sym, ap, ◌∙◌, subst}
 use Rattle.std.specs.FinMap as finmap
 use Rattle.std.specs.Ordering.{nat_cmp}
 use Rattle.std.specs.List.{All}
 use Rattle.std.proofs.lemmas.List.{length-map}
 use Rattle.std.proofs.lemmas.Option.{slice_get-map}
 use Rattle.zj_history.specs.Operation.{Operation}
+use Rattle.zj_history.specs.Transactions.{operations_of}
+use Rattle.zj_tx.specs.Running.{Keeps}
 use Rattle.zj_layout.proofs.Follow.{none_some}
 use Rattle.zj_tree.specs.declared.call.Call.{Call}
 use Rattle.zj_turns.specs.CacheHistory.{operations_on}
 use Rattle.zj_turns.specs.Views.{Hold, Known}
 use Rattle.zj_turns.specs.Passes.{CacheParameters, holds, mine, now_knowing}
-use Rattle.zj_core.specs.Core.{CoreState, IsOf, IsSteady}
+use Rattle.zj_core.specs.Core.{CoreState, HasJournal, IsOf, IsSteady, Runs}
 use Rattle.zj_core.specs.Handle.{root_block}
 use Rattle.zj_core.specs.Steps.{emptied}
 use Rattle.zj_core.proofs.Knowing.{knowing_same, mine_now}
@@ -49,7 +51,7 @@ module _ {D : Type 0} (c : CoreState D) where
   module _ (lone : IsLone c.pass) where
     pub went_rest : WentOn c (resting c)
     went_rest = by_begun c (WentOn c)
-        (λ is. record { known = mine c.pass; pass = sym (knowing_same c.pass (knows_own c.pass lone)); sizes = refl; area = refl })
+        (λ is. record { known = mine c.pass; pass = sym (knowing_same c.pass (knows_own c.pass lone)); sizes = refl })
         (λ call is. went_off c)
 
     module _ (steady : IsSteady c) where
@@ -74,8 +76,28 @@ module _ {D : Type 0} (c : CoreState D) where
       pub not_loaded : (b : ℕ) (h : Hold) → finmap.get (mine (resting c).pass).held b ≡ Some h → ⊥
       not_loaded b h held = none_some (sym (none_there b) ∙ held)
 
+      -- the running transaction keeps what it kept, and the journal is as it was
+      runs_rest : Runs (resting c)
+      runs_rest = by_begun c (λ r. Runs r) (λ is. steady.runs) (λ call is. let same = sym (ap (λ (k : Known). k.operations) (mine_now c.pass (emptied (mine c.pass)))) in record {
+        core = steady.runs.core;
+        cores = steady.runs.cores;
+        keeps = subst (λ operations. Keeps (operations_of operations (record { core = c.pass.core; number = c.running.number })) c.running) same steady.runs.keeps;
+        none_later = subst (All (λ o. (o.core ≡ c.pass.core) × (o.number ≤ c.running.number))) same steady.runs.none_later;
+        ascending = steady.runs.ascending;
+        within = steady.runs.within;
+        number = steady.runs.number;
+        fits = steady.runs.fits;
+        over = steady.runs.over;
+      })
+
+      journal_rest : HasJournal (resting c)
+      journal_rest = by_begun c (λ r. HasJournal r) (λ is. steady.journal) (λ call is. record { core = steady.journal.core; sizes_are = steady.journal.sizes_are; ready = steady.journal.ready; empty = steady.journal.empty })
+
       pub steady_rest : IsSteady (resting c)
       steady_rest = record {
+        may = λ some. absurd (true≢false (sym some ∙ ap is_some idle_rest));
+        runs = runs_rest;
+        journal = journal_rest;
         clear = clear_rest;
         read = λ b h held. absurd (not_loaded b h held);
         idle = λ is. held_rest;
@@ -162,6 +184,7 @@ pub rest_serves : {D : Type 0} (cache : CacheParameters) (cores : List (CoreStat
 rest_serves {D} cache cores history serving = record {
   together = together_rest cache cores serving.together;
   many = length-map cores (resting {D = D}) ∙ serving.many;
+  as_sizes = serving.as_sizes;
   numbered = each_rest cores (λ i r. r.pass.core ≡ i) (λ i c there. went_core c (resting c) (went_rest c (lone i c there)) ∙ serving.numbered i c there);
   steady = all_at IsSteady (map resting cores) (each_rest cores (λ _ r. IsSteady r) (λ i c there. steady_rest c (lone i c there) (steady i c there)));
   one_root = λ i j c d here there own other. absurd (each_rest cores (λ _ r. holds r.pass (root_block cache.sizes) ≡ true → ⊥) (λ i c at. none_rest c (lone i c at) (steady i c at) (root_block cache.sizes)) i c here own);

@@ -12,9 +12,8 @@ use Rattle.zj_core.specs.declared.fault.TakeFault.TheVariants as takes
 use Rattle.zj_core.specs.Core.{CoreState, IsOf, IsSteady, IsTakeCause}
 use Rattle.zj_core.specs.Handle.{root_block}
 use Rattle.zj_core.specs.Steps.{IsFree}
-use Rattle.zj_session.specs.Played.{IsHeldBy, Played, blocks_of, handle_after, has_root}
-use Rattle.zj_session.specs.Service.{IsServing}
-use Rattle.zj_session.proofs.Contents.{is_in}
+use Rattle.zj_session.specs.Played.{IsHeldBy, OpenHandle, Played, blocks_of, handle_after, has_block, has_root, is_in, is_stopped}
+use Rattle.zj_session.specs.Service.{IsServing, IsTold}
 use Rattle.zj_session.proofs.Lists.{at_all}
 use Rattle.zj_session.proofs.Views.{HasMet}
 
@@ -33,6 +32,22 @@ none_in : (blocks : List ℕ) → ((b : ℕ) → is_in b blocks ≡ true → ⊥
 none_in [] never = refl
 none_in (x ∷ blocks) never = absurd (never x (ap (λ t. t || is_in x blocks) (eq-eqb x x refl)))
 
+-- a core holds the root's block where it is told so
+pub root_told : {D : Type 0} (c : CoreState D) (handle : Option OpenHandle) → IsTold c handle → holds c.pass (root_block c.sizes) ≡ has_root c.sizes handle
+root_told c handle told = told.held (root_block c.sizes) ∙ by (is_stopped handle) refl
+  where
+    by : (t : Bool) → is_stopped handle ≡ t → is_in (root_block c.sizes) told.blocks ≡ (t || has_block handle (root_block c.sizes))
+    by true is = told.its.root is
+    by false is = ap (is_in (root_block c.sizes)) (told.its.only is)
+
+-- a handle that has not the root's block was never stopped in vain
+pub not_stopped : (handle : Option OpenHandle) (root : ℕ) → (is_stopped handle || has_block handle root) ≡ false → is_stopped handle ≡ false
+not_stopped handle root none = by (is_stopped handle) none
+  where
+    by : (t : Bool) → (t || has_block handle root) ≡ false → t ≡ false
+    by true is = absurd (true≢false is)
+    by false is = refl
+
 -- the answer that another core has a block
 abbrev pub busy_of : ℕ → ℕ → Form
 busy_of block holder = forms.Busy block holder
@@ -49,19 +64,23 @@ module _ {D : Type 0} (cache : CacheParameters) (old : List (CoreState D)) (play
   pub one_root : (i j : ℕ) (c d : CoreState D) → slice_get old i ≡ Some c → slice_get old j ≡ Some d → holds c.pass (root_block sizes) ≡ true → holds d.pass (root_block sizes) ≡ true → i ≡ j
   one_root i j c d here there one other = serving.service.one_root i j c d here there (subst (λ s. holds c.pass (root_block s) ≡ true) (sym sizes_are) one) (subst (λ s. holds d.pass (root_block s) ≡ true) (sym sizes_are) other)
 
-  -- a handle that is told to have taken the root's block is of a core that holds it
+  -- a core holds it where its handle is told to have it
+  pub root_is : (i : ℕ) (c : CoreState D) → slice_get old i ≡ Some c → holds c.pass (root_block sizes) ≡ has_root sizes (handle_after played i)
+  root_is i c there = subst (λ s. holds c.pass (root_block s) ≡ has_root s (handle_after played i)) (sizes_of i c there) (root_told c (handle_after played i) (serving.told i c there))
+
+  -- a handle that is told to have the root's block is of a core that holds it
   pub told_root : (i : ℕ) → has_root sizes (handle_after played i) ≡ true → (c : CoreState D) × (slice_get old i ≡ Some c) × (holds c.pass (root_block sizes) ≡ true)
   told_root i has = ⊎_elim
       (λ none. absurd (true≢false (sym has ∙ ap (has_root sizes) (serving.absent i none))))
-      (λ (r : (c : CoreState D) × (slice_get old i ≡ Some c)). (r.0, r.1, (serving.told i r.0 r.1).held (root_block sizes) ∙ has))
+      (λ (r : (c : CoreState D) × (slice_get old i ≡ Some c)). (r.0, r.1, root_is i r.0 r.1 ∙ has))
       (there_or_not (slice_get old i))
 
-  -- a core whose handle has not taken it holds it not, and its handle has taken none
-  not_holding : (i : ℕ) (c : CoreState D) → slice_get old i ≡ Some c → has_root sizes (handle_after played i) ≡ false → holds c.pass (root_block sizes) ≡ false
-  not_holding i c there without = (serving.told i c there).held (root_block sizes) ∙ without
+  -- a core whose handle has it not holds it not, and its handle has taken none
+  pub not_holding : (i : ℕ) (c : CoreState D) → slice_get old i ≡ Some c → has_root sizes (handle_after played i) ≡ false → holds c.pass (root_block sizes) ≡ false
+  not_holding i c there without = root_is i c there ∙ without
 
   pub none_taken : (i : ℕ) (c : CoreState D) → slice_get old i ≡ Some c → has_root sizes (handle_after played i) ≡ false → blocks_of (handle_after played i) ≡ []
-  none_taken i c there without = none_in (blocks_of (handle_after played i)) (λ b taken. true≢false (sym (holds_root i c there b ((serving.told i c there).held b ∙ taken)) ∙ not_holding i c there without))
+  none_taken i c there without = none_in (blocks_of (handle_after played i)) (λ b taken. true≢false (sym (holds_root i c there b ((serving.told i c there).held b ∙ (serving.told i c there).its.taken b taken)) ∙ not_holding i c there without))
 
   -- two that have the root's block are one
   pub same_busy : (at block holder other another : ℕ) → IsHeldBy sizes (handle_after played) at block holder → IsHeldBy sizes (handle_after played) at other another → busy_of block holder ≡ busy_of other another
@@ -115,6 +134,6 @@ module _ {D : Type 0} (cache : CacheParameters) (old : List (CoreState D)) (play
       is_held_by = record {
         root = cause.0.first then_free;
         other = apart;
-        theirs = sym ((serving.told holder holding held_there).held (root_block sizes)) ∙ their_root;
-        not_own = sym ((serving.told at core at_place).held (root_block sizes)) ∙ own_free;
+        theirs = sym (root_is holder holding held_there) ∙ their_root;
+        not_own = sym (root_is at core at_place) ∙ own_free;
       }

@@ -12,7 +12,7 @@ use Rattle.zj_tree.specs.declared.call.Reply.{Reply}
 use Rattle.zj_layout.proofs.Follow.{none_some, some_is}
 use Rattle.zj_inode.specs.Laws.{HistoryIsRun}
 use Rattle.zj_inode.specs.Performs.{Performs}
-use Rattle.zj_inode.specs.Run.{contents_found}
+use Rattle.zj_inode.specs.Run.{IsServed, contents_found}
 use Rattle.zj_script.specs.declared.line.Line.{Line}
 use Rattle.zj_script.specs.declared.answer.Form.{Form}
 use Rattle.zj_script.specs.declared.answer.Form.TheVariants as forms
@@ -22,7 +22,7 @@ use Rattle.zj_session.proofs.Lists.{at_end, at_seam}
 
 -- ---- lists and forms
 
-front_more : {X : Type 0} (xs : List X) (n : ℕ) (x : X) → slice_get xs n ≡ Some x → take (suc n) xs ≡ take n xs ++ x ∷ []
+pub front_more : {X : Type 0} (xs : List X) (n : ℕ) (x : X) → slice_get xs n ≡ Some x → take (suc n) xs ≡ take n xs ++ x ∷ []
 front_more [] n x at = absurd (none_some at)
 front_more (y ∷ xs) zero x at = ap (λ z. z ∷ []) (some_is at)
 front_more (y ∷ xs) (suc n) x at = ap (λ (zs : List _). y ∷ zs) (front_more xs n x at)
@@ -209,10 +209,13 @@ fit_is_run law sizes start tree played history shows fit =
     let many = r.called ∙ ap tickets_in whole in
     let answered = r.replied ∙ ap tickets_in whole in
     let tickets = fit.tickets in
-    record {
-      calls = r.calls;
-      replies = r.replies;
-      many = many;
-      each = λ k core ticket line reply at on. r.each k core ticket line reply (slice_get_within played k (line, forms.Drew ticket reply) at) at on;
-      run = (law sizes start tree history r.calls r.replies shows fit.legal (record { all_called = omega (arith, many, tickets); all_replied = omega (arith, answered, tickets); each = λ k o call reply. r.serves k o call reply })).0;
-    }
+    let served : IsServed sizes history r.calls r.replies = record { all_called = omega (arith, many, tickets); all_replied = omega (arith, answered, tickets); each = λ k o call reply. r.serves k o call reply } in (
+      record {
+        calls = r.calls;
+        replies = r.replies;
+        many = many;
+        each = λ k core ticket line reply at on. r.each k core ticket line reply (slice_get_within played k (line, forms.Drew ticket reply) at) at on;
+        run = (law sizes start tree history r.calls r.replies shows fit.legal served).0;
+      },
+      served,
+    )

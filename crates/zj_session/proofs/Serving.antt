@@ -1,5 +1,5 @@
 -- Cores that serve calls go on to serve them, where the one at a place went on as it may.
-use Rattle.std.proofs.Common.{◌≡◌, ◌≢◌, ◌⊎◌, ⊎_elim, ℕ, true, false, true≢false, List, [], ◌∷◌, ◌++◌, Option, Some, slice_get, slice_set, option_map, refl, sym, ap, ◌∙◌, subst, arith}
+use Rattle.std.proofs.Common.{◌≡◌, ◌≢◌, ◌⊎◌, ⊎_elim, ℕ, true, false, true≢false, List, [], ◌∷◌, ◌++◌, Option, Some, slice_get, slice_set, refl, sym, ap, ◌∙◌, subst, arith}
 use Rattle.std.specs.FinMap as finmap
 use Rattle.std.proofs.lemmas.List.{length-set}
 use mathlib.Core.Logic.{dite}
@@ -14,23 +14,21 @@ use Rattle.zj_turns.specs.Views.{Known, View, alone, blank, knowing}
 use Rattle.zj_turns.specs.Passes.{CacheParameters, IsLoadedAfter, holds, mine, now_knowing}
 use Rattle.zj_turns.proofs.Again.{insert_again}
 use Rattle.zj_core.specs.Core.{CoreState, IsOf, IsSteady}
-use Rattle.zj_core.specs.Handle.{root_block}
+use Rattle.zj_core.specs.Handle.{entries_held, root_block}
 use Rattle.zj_core.proofs.Knowing.{mine_now}
-use Rattle.zj_session.specs.Played.{OpenHandle, Played, blocks_of, handle_after, handle_behind}
+use Rattle.zj_session.specs.Played.{AreBlocksOf, OpenHandle, Played, handle_after, handle_behind}
 use Rattle.zj_session.specs.Service.{AreTogether, HasHistory, IsService, IsServing, IsTold}
-use Rattle.zj_session.proofs.Contents.{is_in}
 use Rattle.zj_session.proofs.Growing.{HasDone}
 use Rattle.zj_session.proofs.Handles.{handle_else, handle_here}
 use Rattle.zj_session.proofs.Lists.{all_at, at_all, pairs_at, set_else, set_here}
 
 -- The core at a place goes on: its sizes stay, one history has what all did, it has the root's block only where it had it or no other
--- one has, and it has this handle.
+-- one has, and this handle is told of it.
 pub record GoesOn {D : Type 0} (cache : CacheParameters) (old : List (CoreState D)) (at : ℕ) (core after : CoreState D) (handle : Option OpenHandle) (later : List Operation) : Type 0 where
   pub sizes : after.sizes ≡ core.sizes
   pub done : HasDone cache old at (mine after.pass) later
   pub root : holds after.pass (root_block cache.sizes) ≡ true → (holds core.pass (root_block cache.sizes) ≡ true) ⊎ ((i : ℕ) (c : CoreState D) → slice_get old i ≡ Some c → holds c.pass (root_block cache.sizes) ≡ false)
-  pub begun : after.begun ≡ option_map (λ h. h.call) handle
-  pub held : (b : ℕ) → holds after.pass b ≡ is_in b (blocks_of handle)
+  pub told : IsTold after handle
 
 -- a core that parted from all others
 abbrev pub parted : {D : Type 0} → CoreState D → CoreState D → CoreState D
@@ -125,6 +123,7 @@ module _ {D : Type 0} (cache : CacheParameters) (old : List (CoreState D)) (hist
   is_service = record {
     together = together;
     many = length-set old at (parted core after) ∙ serving.many;
+    as_sizes = serving.as_sizes;
     numbered = numbered;
     steady = all_at IsSteady new (of_each old at core after at_place (λ _ c. IsSteady c) steady (λ i c _ there. at_all IsSteady old serving.steady i c there));
     one_root = one_root;
@@ -140,8 +139,10 @@ is_serving {D} cache old played history serving at core after at_place line form
   service = is_service cache old history serving.service at core after at_place (handle_behind (handle_after played at) line.act form) later goes steady;
   told = of_each old at core after at_place (λ i c. IsTold c (handle_after (played ++ (line, form) ∷ []) i))
       (subst (IsTold (parted core after)) (sym (handle_here played line form at on)) (record {
-        begun = goes.begun;
-        held = λ b. parted_holds old at core after at_place b ∙ goes.held b;
+        begun = goes.told.begun;
+        blocks = goes.told.blocks;
+        held = λ b. parted_holds old at core after at_place b ∙ goes.told.held b;
+        its = subst (λ (k : Known). AreBlocksOf after.sizes (entries_held k) (handle_behind (handle_after played at) line.act form) goes.told.blocks) (sym (parted_mine old at core after at_place)) goes.told.its;
       }))
       (λ i c apart there. subst (IsTold c) (sym (handle_else played line form at on i apart)) (serving.told i c there));
   absent = λ i none. dite (ℕ_discrete i at)

@@ -7,6 +7,7 @@ use Rattle.zj_turns.specs.Views.{Has, Known, View, alone, blank, knowing}
 use Rattle.zj_turns.specs.Passes.{CacheParameters, IsPeer, PassState, left_of, mine, now_knowing, with_away, with_view}
 use Rattle.zj_turns.proofs.Maps.{get_else}
 use Rattle.zj_core.specs.Core.{CoreState, IsOf}
+use Rattle.zj_session.specs.Answering.{OnlyOwn}
 use Rattle.zj_session.specs.Gathering.{ArePeers, core_away, gathered, passes_of, released}
 use Rattle.zj_session.specs.Service.{AreTogether}
 use Rattle.zj_session.proofs.Seen.{all_back, all_front, gathered_append, gathered_is, joining, joining_aside, pairs_across, pairs_back, pairs_front, pairs_head, pairs_mapped, pairs_tail, parting, parting_aside, released_append, released_is, seen, seen_aside}
@@ -144,7 +145,7 @@ module _ {D : Type 0} (cache : CacheParameters) (front back : List (CoreState D)
       pub left₂ : left_of core.pass ≢ 0 → left_of core₂.pass ≢ 0
       left₂ left none = left (sym (ap (λ (k : Known). 4294967295 - length k.operations) mine₂) ∙ none)
 
-      module _ (core₃ : CoreState D) (only : core₃ ≡ record core₂ { pass = now_knowing core₂.pass (mine core₃.pass); begun = core₃.begun }) where
+      module _ (core₃ : CoreState D) (only : OnlyOwn core₂ core₃) where
         pass₃ : core₃.pass ≡ now_knowing core₂.pass (mine core₃.pass)
         pass₃ = ap (λ (c : CoreState D). c.pass) only
 

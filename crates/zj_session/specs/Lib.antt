@@ -1,3 +1,5 @@
+pub mod Logging
+pub mod Crashes
 pub mod Answering
 pub mod Gathering
 pub mod Laws

@@ -8,9 +8,9 @@ use Rattle.zj_layout.specs.Shows.{ShowsSome}
 use Rattle.zj_turns.specs.CacheHistory.{IsCacheHistory, operations_on}
 use Rattle.zj_turns.specs.Views.{Hold, alone}
 use Rattle.zj_turns.specs.Passes.{CacheParameters, IsLoadedAfter, holds, mine}
-use Rattle.zj_core.specs.Handle.{root_block}
+use Rattle.zj_core.specs.Handle.{entries_held, root_block}
 use Rattle.zj_core.specs.Core.{CoreState, IsOf, IsSteady}
-use Rattle.zj_session.specs.Played.{OpenHandle, Played, handle_after, has_block}
+use Rattle.zj_session.specs.Played.{AreBlocksOf, OpenHandle, Played, handle_after, is_in}
 
 -- The cores are of one cache and differ, each is at hand, and each knows of no core but its own.
 pub record AreTogether {D : Type 0} (cache : CacheParameters) (cores : List (CoreState D)) : Type 0 where
@@ -29,15 +29,18 @@ pub record HasHistory {D : Type 0} (cache : CacheParameters) (cores : List (Core
 pub record IsService {D : Type 0} (cache : CacheParameters) (cores : List (CoreState D)) (history : List Operation) : Type 0 where
   pub together : AreTogether cache cores
   pub many : length cores ≡ cache.cores
+  pub as_sizes : cache.cores ≡ cache.sizes.cores
   pub numbered : (i : ℕ) (c : CoreState D) → slice_get cores i ≡ Some c → c.pass.core ≡ i
   pub steady : All IsSteady cores
   pub one_root : (i j : ℕ) (c d : CoreState D) → slice_get cores i ≡ Some c → slice_get cores j ≡ Some d → holds c.pass (root_block cache.sizes) ≡ true → holds d.pass (root_block cache.sizes) ≡ true → i ≡ j
   pub has : HasHistory cache cores history
 
--- A core has the handle that is told: its call is begun, and the blocks that it has taken are those that the core holds.
+-- A core has the handle that is told: its call is begun, and the blocks that it has are those that the core holds.
 pub record IsTold {D : Type 0} (c : CoreState D) (handle : Option OpenHandle) : Type 0 where
   pub begun : c.begun ≡ option_map (λ h. h.call) handle
-  pub held : (b : ℕ) → holds c.pass b ≡ has_block handle b
+  pub blocks : List ℕ
+  pub held : (b : ℕ) → holds c.pass b ≡ is_in b blocks
+  pub its : AreBlocksOf c.sizes (entries_held (mine c.pass)) handle blocks
 
 -- Cores that serve calls, and have the handles and the history that the lines so far and their answers tell. No handle is told of a
 -- core that isn't there.

@@ -3,17 +3,18 @@
 ghost use Rattle.std.specs.Prelude.{◌≡◌, ◌≢◌, ◌⊎◌, ◌<◌, IfOk, IfSome, IsSome, OnErr, OnOk, None, Some, length, slice_get};
 ghost use Rattle.zj_script.specs.declared.line.Act.TheVariants as acts;
 ghost use Rattle.zj_script.specs.declared.answer.Form.TheVariants as forms;
-ghost use Rattle.zj_turns.specs.Passes.{left_of};
+ghost use Rattle.zj_turns.specs.Passes.{CacheParameters, left_of};
 ghost use Rattle.zj_turns.specs.Views.{Has};
 ghost use Rattle.zj_core.specs.Core.{CoreState, IsOf, IsSteady};
-ghost use Rattle.zj_session.specs.Answering.{Does, DoesIdle, DoesOpen, IsAnswered, IsHandled, IsLeftOff, OnlyOwn, without_handle};
+ghost use Rattle.zj_session.specs.Answering.{DeviceGoesOn, Does, DoesIdle, DoesOpen, IsAnswered, IsHandled, IsLeftOff, OnlyOwn, without_handle};
+ghost use Rattle.zj_session.specs.Playing.{JournalsGoOn, journals_of};
 ghost use Rattle.zj_session.specs.Service.{AreTogether};
 
 use crate::gathering::{meet_all, part_all};
 use std::alloc::AllocError;
-use zj_core::{BeginFault, CallFault, Core, Done, ShowsTree, StopFault, TakeFault};
-use zj_dev::Disk;
-use zj_script::{Act, Form};
+use zj_core::{BeginFault, CallFault, CommitFault, Core, Done, ShowsTree, StopFault, TakeFault};
+use zj_dev::{Device, Disk};
+use zj_script::{Act, Form, SyncForm};
 use zj_tree::Call;
 use zj_turns::Cache;
 
@@ -28,8 +29,9 @@ fn answer_act<D: Disk>(
     requires known { Has core.old.pass.view core.old.pass.core }
     requires handled { IsHandled act.now }
     requires left { left_of core.old.pass ≢ 0 }
-    ensures does { IfOk result (Does cache.now core.old core.new core.old.begun act.now) }
+    ensures does { IfOk result (Does D.view cache.now core.old core.new core.old.begun act.now) }
     ensures only { OnlyOwn core.old core.new }
+    ensures device { DeviceGoesOn D.view core.old core.new }
     ensures err { OnErr result ((core.new ≡ core.old) ⊎ (core.new ≡ without_handle core.old)) }
 {
     if core.open_handle() {
@@ -50,13 +52,15 @@ fn answer_idle<D: Disk>(
     requires idle { core.old.begun ≡ None }
     requires handled { IsHandled act.now }
     requires left { left_of core.old.pass ≢ 0 }
-    ensures does { IfOk result (DoesIdle cache.now core.old core.new act.now) }
+    ensures does { IfOk result (DoesIdle D.view cache.now core.old core.new act.now) }
     ensures only { OnlyOwn core.old core.new }
+    ensures device { DeviceGoesOn D.view core.old core.new }
     ensures err { OnErr result (core.new ≡ core.old) }
 {
     match act {
         Act::Call(call) => make_call(cache, core, call),
         Act::Begin(call) => begin(core, call),
+        Act::Commit => Ok(commit(core)),
         _ => Ok(Form::Order),
     }
 }
@@ -73,6 +77,7 @@ fn answer_open<D: Disk>(
     requires handled { IsHandled act.now }
     ensures does { IfOk result (λ form. IfSome core.old.begun (λ call. DoesOpen cache.now core.old core.new call act.now form)) }
     ensures only { OnlyOwn core.old core.new }
+    ensures device { DeviceGoesOn D.view core.old core.new }
     ensures err { OnErr result ((core.new ≡ core.old) ⊎ (core.new ≡ without_handle core.old)) }
 {
     match act {
@@ -96,13 +101,17 @@ fn make_call<D: Disk>(
     requires known { Has core.old.pass.view core.old.pass.core }
     requires idle { core.old.begun ≡ None }
     requires left { left_of core.old.pass ≢ 0 }
-    ensures does { IfOk result (DoesIdle cache.now core.old core.new (acts.Call call.now)) }
+    ensures does { IfOk result (DoesIdle D.view cache.now core.old core.new (acts.Call call.now)) }
     ensures only { OnlyOwn core.old core.new }
+    ensures device { DeviceGoesOn D.view core.old core.new }
     ensures err { OnErr result (core.new ≡ core.old) }
 {
     match core.call(cache, call) {
         Ok(Done { ticket, reply }) => Ok(Form::Drew { ticket, reply }),
         Err(CallFault::Busy { block, holder }) => Ok(Form::Busy { block, holder }),
+        Err(CallFault::TxFull { have, more }) => Ok(Form::TxFull { have, more }),
+        Err(CallFault::JournalFull { need, free }) => Ok(Form::Full { need, free }),
+        Err(CallFault::Failed { core }) => Ok(Form::Sync(SyncForm::Failed { core })),
         Err(CallFault::Spent { .. }) => unreachable!(),
         Err(CallFault::NoMemory) => Err(AllocError),
     }
@@ -110,16 +119,38 @@ fn make_call<D: Disk>(
 
 /// Begins a handle on a core that has none.
 fn begin<D: Disk>(core: &mut Core<D>, call: &Call) -> Result<Form, AllocError>
+    requires known { Has core.old.pass.view core.old.pass.core }
     requires idle { core.old.begun ≡ None }
     requires left { left_of core.old.pass ≢ 0 }
-    ensures begun { OnOk result (core.new ≡ record core.old { begun = Some call.now }) }
-    ensures form { IfOk result (λ form. form ≡ forms.Begun) }
+    ensures does { (cache : CacheParameters) → IfOk result (DoesIdle D.view cache core.old core.new (acts.Begin call.now)) }
+    ensures only { OnlyOwn core.old core.new }
+    ensures device { DeviceGoesOn D.view core.old core.new }
     ensures err { OnErr result (core.new ≡ core.old) }
 {
     match core.begin(call) {
         Ok(()) => Ok(Form::Begun),
+        Err(BeginFault::Failed { core }) => Ok(Form::Sync(SyncForm::Failed { core })),
+        Err(BeginFault::JournalFull { need, free }) => Ok(Form::Full { need, free }),
         Err(BeginFault::Spent { .. }) => unreachable!(),
         Err(BeginFault::NoMemory) => Err(AllocError),
+    }
+}
+
+/// Commits the running transaction of a core that has no handle. It takes no memory.
+fn commit<D: Disk>(core: &mut Core<D>) -> Form
+    requires known { Has core.old.pass.view core.old.pass.core }
+    requires idle { core.old.begun ≡ None }
+    ensures does { (cache : CacheParameters) → DoesIdle D.view cache core.old core.new acts.Commit result }
+    ensures only { OnlyOwn core.old core.new }
+    ensures device { DeviceGoesOn D.view core.old core.new }
+{
+    match core.commit() {
+        Ok(number) => Form::Committed { number },
+        Err(CommitFault::Empty) => Form::Empty,
+        Err(CommitFault::Failed { core }) => Form::Sync(SyncForm::Failed { core }),
+        Err(CommitFault::DiskFault) => Form::Sync(SyncForm::Fault {
+            device: Device::Journal(core.core()),
+        }),
     }
 }
 
@@ -130,6 +161,7 @@ fn take<D: Disk>(cache: &Cache<ShowsTree>, core: &mut Core<D>) -> Result<Form, A
     requires open { IsSome core.old.begun }
     ensures does { IfOk result (λ form. IfSome core.old.begun (λ call. DoesOpen cache.now core.old core.new call acts.Take form)) }
     ensures only { OnlyOwn core.old core.new }
+    ensures device { DeviceGoesOn D.view core.old core.new }
     ensures err { OnErr result (core.new ≡ core.old) }
 {
     match core.take(cache) {
@@ -146,11 +178,13 @@ fn stop<D: Disk>(cache: &Cache<ShowsTree>, core: &mut Core<D>) -> Result<Form, A
     requires open { IsSome core.old.begun }
     ensures does { IfOk result (λ form. IfSome core.old.begun (λ call. DoesOpen cache.now core.old core.new call acts.Stop form)) }
     ensures only { OnlyOwn core.old core.new }
+    ensures device { DeviceGoesOn D.view core.old core.new }
     ensures err { OnErr result (core.new ≡ without_handle core.old) }
 {
     match core.stop(cache) {
         Ok(Done { ticket, reply }) => Ok(Form::Drew { ticket, reply }),
         Err(StopFault::Busy { block, holder }) => Ok(Form::Busy { block, holder }),
+        Err(StopFault::TxFull { have, more }) => Ok(Form::TxFull { have, more }),
         Err(StopFault::NoMemory) => {
             core.drop_handle(cache);
             Err(AllocError)
@@ -158,7 +192,8 @@ fn stop<D: Disk>(cache: &Cache<ShowsTree>, core: &mut Core<D>) -> Result<Form, A
     }
 }
 
-/// Answers an act on the core at a place: it meets all others, and parts from each once the act is done.
+/// Answers an act on the core at a place: it meets all others, and parts from each once the act is done. Only a commit makes device calls,
+/// on the core's own journal.
 ///
 /// `AllocError` leaves the cores as they were, or a handle that was open there is dropped.
 pub fn answer_line<D: Disk>(
@@ -171,8 +206,9 @@ pub fn answer_line<D: Disk>(
     requires below { at < length cores.old }
     requires handled { IsHandled act.now }
     requires left { (core : CoreState D) → slice_get cores.old at ≡ Some core → left_of core.pass ≢ 0 }
-    ensures answered { IfOk result (IsAnswered cache.now cores.old cores.new at act.now) }
+    ensures answered { IfOk result (IsAnswered D.view cache.now cores.old cores.new at act.now) }
     ensures steady { (core : CoreState D) → slice_get cores.new at ≡ Some core → IsSteady core }
+    ensures journals { JournalsGoOn D.view (journals_of cores.old) (journals_of cores.new) }
     ensures err { OnErr result (IsLeftOff cores.old cores.new at) }
 {
     let (front, rest) = cores.split_at_mut(at);

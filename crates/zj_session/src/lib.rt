@@ -9,12 +9,13 @@
 //!   and each performs the line's call, or that of the handle which the line stops, with the reply answered. It found the
 //!   block of the root's node and all that the handle took, and beside those only blocks that the call may take. Every other
 //!   answer is right after the operations of the lines before it (`IsRight`): `order` exactly where the act doesn't suit the core;
-//!   `busy` exactly where it suits the core and takes blocks, and the handle of another core has the block of the root's node,
-//!   which each call takes first, and it names both; `took` names a block that the call may take in every state that shows a
-//!   tree and has what the handle took before; `ready` comes where the call is performed on what was taken.
+//!   `busy` exactly where it suits the core and takes blocks, a handle may be begun, and the handle of another core has the block of
+//!   the root's node, which each call takes first, and it names both; `took` names a block that the call may take in every state
+//!   that shows a tree and has what the handle had before; `ready` comes where the call is performed on what the handle has. A stop
+//!   that finds no room leaves its handle what it took: the block of the root's node, and others that its call may take.
 //! - Replies that fit are the plain service's in turn (`laws::fit_is_run`).
-//! - `play` ends with no handle open, also where memory runs out: then the answers are those of the lines so far. It touches no
-//!   device.
+//! - `play` ends with no handle open, also where memory runs out: then the answers are those of the lines so far. Only
+//!   commits make device calls, each on the journal of its core.
 //! - `Service::start` makes a service whose history is empty, over the blocks that were recovered; where memory runs out it gives
 //!   the journals back. `Service::left` tells the least number of tickets that a core may still draw, and `Service::end` gives
 //!   the journals back as they are.

@@ -8,7 +8,8 @@ ghost use Rattle.zj_turns.specs.Passes.{IsMadeWith, dealt, left_of};
 ghost use Rattle.zj_core.specs.Core.{CoreState};
 ghost use Rattle.zj_session.specs.Playing.{AreIdle, AreJournals, journals_of};
 ghost use Rattle.zj_session.specs.Service.{IsService};
-ghost use Rattle.zj_session.specs.Starting.{AreFresh};
+ghost use Rattle.zj_session.specs.Playing.{HasPast};
+ghost use Rattle.zj_session.specs.Starting.{AreFresh, RestWithNone, past_of};
 
 use crate::service::Service;
 use std::alloc::{AllocError, Global};
@@ -31,8 +32,10 @@ impl<D: Disk> Service<D> {
         requires many { length areas.areas ≡ recovered.now.sizes.cores }
         requires shows { ShowsSome recovered.now.sizes recovered.now.blocks }
         requires journals { AreJournals recovered.now.sizes areas.areas }
+        requires rest { RestWithNone D.view areas.areas }
         ensures cache { IfOk result (λ s. (s.cache.sizes ≡ recovered.now.sizes) × (s.cache.start ≡ recovered.now.blocks)) }
         ensures service { IfOk result (λ s. IsService s.cache s.cores []) }
+        ensures past { IfOk result (λ s. HasPast D.view s (past_of D.view areas.areas)) }
         ensures journals { IfOk result (λ s. journals_of s.cores ≡ areas.areas) }
         ensures err { IfErr result (λ refused. refused.areas ≡ areas.areas) }
     {

@@ -12,3 +12,12 @@ returns-in-Err-Busy-clause-only g c = only_same c.args.core.now c.call.new.self 
 
 pub returns-in-Err-NoMemory-clause-only : goal.returns-in-Err-NoMemory-clause-only
 returns-in-Err-NoMemory-clause-only g c = only_same c.args.core.now c.call.new.self c.requires.known c.in-Err-NoMemory.ensures.err
+
+pub returns-in-Err-TxFull-clause-only : goal.returns-in-Err-TxFull-clause-only
+returns-in-Err-TxFull-clause-only g c = only_same c.args.core.now c.call.new.self c.requires.known c.in-Err-TxFull.ensures.err
+
+pub returns-in-Err-JournalFull-clause-only : goal.returns-in-Err-JournalFull-clause-only
+returns-in-Err-JournalFull-clause-only g c = only_same c.args.core.now c.call.new.self c.requires.known c.in-Err-JournalFull.ensures.err
+
+pub returns-in-Err-Failed-clause-only : goal.returns-in-Err-Failed-clause-only
+returns-in-Err-Failed-clause-only g c = only_same c.args.core.now c.call.new.self c.requires.known c.in-Err-Failed.ensures.err

@@ -2,10 +2,11 @@ use Rattle.std.proofs.Common.{◌≤◌, [], List, length, map, sym, ap, ◌∙�
 use Rattle.std.specs.List.{All}
 use Rattle.std.proofs.lemmas.List.{with_items_is}
 use Rattle.std.proofs.lemmas.Result.{err_from_is_err_and}
+use Rattle.zj_area.specs.Journal.{AreaView}
 use Rattle.zj_script.specs.declared.line.Line.{Line}
 use Rattle.zj_turns.specs.Passes.{left_of}
 use Rattle.zj_core.specs.Core.{CoreState}
-use Rattle.zj_session.specs.Playing.{AreIdle, ServiceState, journals_of, resting}
+use Rattle.zj_session.specs.Playing.{AreIdle, JournalsGoOn, ServiceState, journals_of, resting}
 use Rattle.zj_session.proofs.Resting.{at_rest, same_journals}
 use Rattle.zj_session.proofs.Schedules.{plays_so, stops_so}
 use Rattle.zj_session.proofs.playing.play.Goals as goal
@@ -29,18 +30,21 @@ invariant_of-service g c =
 pub returns-in_err-played-clause-stops : goal.returns-in_err-played-clause-stops
 returns-in_err-played-clause-stops g c =
     let p = err_from_is_err_and c.from_residual.result c.from_residual.ensures.1 in
-    rw p.1 (λ before service.
-    stops_so (record { cache = c.service.inside.cache; cores = c.as_mut_slice-cores.result.now }) c.args.service.now
+    rw p.1 (λ past before.
+    stops_so g.D.Disk.view (record { cache = c.service.inside.cache; cores = c.as_mut_slice-cores.result.now }) c.args.service.now
     (record { cache = c.service.inside.cache; cores = map resting c.play_lines-played.new.cores }) _ c.as_slice.result.now c.args.schedule.now
     (ap (λ (cores : List (CoreState g.row.D.Denot)). record { cache = c.service.inside.cache; cores = cores }) c.as_mut_slice-cores.ensures.value ∙ c.service.view_is)
     (ap (λ (cores : List (CoreState g.row.D.Denot)). record { cache = c.service.inside.cache; cores = cores }) (sym (with_items_is c.service.inside.cores c.drop_all.new.cores (c.drop_all.auto.cores ∙ c.play_lines-played.auto.cores ∙ c.as_mut_slice-cores.ensures.len) ∙ c.drop_all.ensures)))
-    c.as_slice.ensures c.args.out.now.answers c.play_lines-played.new.out.answers before (c.in_err-played.ensures.stops before) service)
+    c.as_slice.ensures c.args.out.now.answers c.play_lines-played.new.out.answers past (c.in_err-played.ensures.stops past) before)
 
 pub returns-in_err-played-clause-journals : goal.returns-in_err-played-clause-journals
 returns-in_err-played-clause-journals g c =
-    ap journals_of (with_items_is c.service.inside.cores c.drop_all.new.cores (c.drop_all.auto.cores ∙ c.play_lines-played.auto.cores ∙ c.as_mut_slice-cores.ensures.len) ∙ c.drop_all.ensures)
-    ∙ same_journals c.play_lines-played.new.cores ∙ c.play_lines-played.ensures.journals
-    ∙ ap journals_of (c.as_mut_slice-cores.ensures.value ∙ ap (λ (s : ServiceState g.row.D.Denot). s.cores) c.service.view_is)
+    subst (λ (x : List (AreaView g.row.D.Denot) × List (AreaView g.row.D.Denot)). JournalsGoOn g.D.Disk.view x.0 x.1)
+    (λ i. (
+      ap journals_of (c.as_mut_slice-cores.ensures.value ∙ ap (λ (s : ServiceState g.row.D.Denot). s.cores) c.service.view_is) i,
+      sym (ap journals_of (with_items_is c.service.inside.cores c.drop_all.new.cores (c.drop_all.auto.cores ∙ c.play_lines-played.auto.cores ∙ c.as_mut_slice-cores.ensures.len) ∙ c.drop_all.ensures) ∙ same_journals c.play_lines-played.new.cores) i,
+    ))
+    c.play_lines-played.ensures.journals
 
 pub invariant_of-service-2 : goal.invariant_of-service-2
 invariant_of-service-2 g c =
@@ -51,15 +55,18 @@ invariant_of-service-2 g c =
     (at_rest c.service.inside.cache c.play_lines-played.new.cores _ whole c.play_lines-played.ensures.together, c.service.invariant.1, omega arith)
 
 pub returns-clause-plays : goal.returns-clause-plays
-returns-clause-plays g c = λ before service.
-    plays_so (record { cache = c.service.inside.cache; cores = c.as_mut_slice-cores.result.now }) c.args.service.now
+returns-clause-plays g c = λ past before.
+    plays_so g.D.Disk.view (record { cache = c.service.inside.cache; cores = c.as_mut_slice-cores.result.now }) c.args.service.now
     (record { cache = c.service.inside.cache; cores = map resting c.play_lines-played.new.cores }) _ c.as_slice.result.now c.args.schedule.now
     (ap (λ (cores : List (CoreState g.row.D.Denot)). record { cache = c.service.inside.cache; cores = cores }) c.as_mut_slice-cores.ensures.value ∙ c.service.view_is)
     (ap (λ (cores : List (CoreState g.row.D.Denot)). record { cache = c.service.inside.cache; cores = cores }) (sym (with_items_is c.service.inside.cores c.drop_all.new.cores (c.drop_all.auto.cores ∙ c.play_lines-played.auto.cores ∙ c.as_mut_slice-cores.ensures.len) ∙ c.drop_all.ensures)))
-    c.as_slice.ensures c.args.out.now.answers c.play_lines-played.new.out.answers before [] (c.in_ok-played.ensures.plays before) service
+    c.as_slice.ensures c.args.out.now.answers c.play_lines-played.new.out.answers past [] (c.in_ok-played.ensures.plays past) before
 
 pub returns-clause-journals : goal.returns-clause-journals
 returns-clause-journals g c =
-    ap journals_of (with_items_is c.service.inside.cores c.drop_all.new.cores (c.drop_all.auto.cores ∙ c.play_lines-played.auto.cores ∙ c.as_mut_slice-cores.ensures.len) ∙ c.drop_all.ensures)
-    ∙ same_journals c.play_lines-played.new.cores ∙ c.play_lines-played.ensures.journals
-    ∙ ap journals_of (c.as_mut_slice-cores.ensures.value ∙ ap (λ (s : ServiceState g.row.D.Denot). s.cores) c.service.view_is)
+    subst (λ (x : List (AreaView g.row.D.Denot) × List (AreaView g.row.D.Denot)). JournalsGoOn g.D.Disk.view x.0 x.1)
+    (λ i. (
+      ap journals_of (c.as_mut_slice-cores.ensures.value ∙ ap (λ (s : ServiceState g.row.D.Denot). s.cores) c.service.view_is) i,
+      sym (ap journals_of (with_items_is c.service.inside.cores c.drop_all.new.cores (c.drop_all.auto.cores ∙ c.play_lines-played.auto.cores ∙ c.as_mut_slice-cores.ensures.len) ∙ c.drop_all.ensures) ∙ same_journals c.play_lines-played.new.cores) i,
+    ))
+    c.play_lines-played.ensures.journals

@@ -1,6 +1,6 @@
 use Rattle.std.proofs.Common.{◌≡◌, ◌∙◌, ◌<◌, sym, ap, arith, length}
 use Rattle.zj_turns.specs.Passes.{PassState}
-use Rattle.zj_session.proofs.Cores.{dealt_out, fresh_more, idle_fresh, journals_more, own_journal}
+use Rattle.zj_session.proofs.Cores.{dealt_out, fresh_more, idle_fresh, journals_more, none_fresh, own_journal}
 use Rattle.zj_session.proofs.starting.make_cores.Goals as goal
 
 pub new-requires-clause-idle : goal.new-requires-clause-idle
@@ -8,6 +8,12 @@ new-requires-clause-idle g c =
     let low : c.loop-core._core < c.args.cache.now.cores = omega arith in
     let out = dealt_out c.args.cache.now c.args.cache.now.cores c.loop-core._core low c.loop-core.passes c.next.new.self c.in-Some.pass c.loop-core.invariant.passes c.in-Some.ensures.some in
     idle_fresh c.args.cache.now c.loop-core._core c.in-Some.pass out.1
+
+pub new-requires-clause-none : goal.new-requires-clause-none
+new-requires-clause-none g c =
+    let low : c.loop-core._core < c.args.cache.now.cores = omega arith in
+    let out = dealt_out c.args.cache.now c.args.cache.now.cores c.loop-core._core low c.loop-core.passes c.next.new.self c.in-Some.pass c.loop-core.invariant.passes c.in-Some.ensures.some in
+    none_fresh c.args.cache.now c.loop-core._core c.in-Some.pass out.1
 
 pub new-requires-clause-core : goal.new-requires-clause-core
 new-requires-clause-core g c =

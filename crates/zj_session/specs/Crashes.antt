@@ -1,0 +1,105 @@
+-- What the journals of cores keep, at each moment, of the transactions that their cores sealed; and what recovery makes of a crash.
+use Rattle.std.specs.Prelude.{◌≡◌, ◌⊎◌, ℕ, ◌+◌, ◌≤◌, ◌<◌, false, List, ◌∷◌, length, take, Option, Some, None, slice_get, slice_index}
+use Rattle.zj_block.specs.Sizes.{Numbers}
+use Rattle.zj_block.specs.declared.numbers.Tail.{Tail}
+use Rattle.zj_block.specs.declared.numbers.Writer.{Writer}
+use Rattle.zj_dev.specs.Crash.{IsCrashSet}
+use Rattle.zj_dev.specs.Disk.{DiskView, EachImageSince, IsSettled}
+use Rattle.zj_dev.specs.declared.span.Span.{Span}
+use Rattle.zj_history.specs.Cut.{IsConsistentCut, cut}
+use Rattle.zj_history.specs.Operation.{Operation}
+use Rattle.zj_history.specs.State.{BlockState, after}
+use Rattle.zj_history.specs.Transactions.{AreNumbered, Bounds, last_number}
+use Rattle.zj_home.specs.Made.{HoldsBlocks}
+use Rattle.zj_tree.specs.declared.call.Call.{Call}
+use Rattle.zj_tree.specs.declared.call.Reply.{Reply}
+use Rattle.zj_tree.specs.Tree.{FileTree}
+use Rattle.zj_layout.specs.Shows.{Shows, limits_of}
+use Rattle.zj_inode.specs.Run.{chosen, replies_from, tree_after}
+use Rattle.zj_tx.specs.Frozen.{IsFrozen}
+use Rattle.zj_tx.specs.Record.{Record}
+use Rattle.zj_area.specs.Journal.{AreaView, IsAtRest, JournalView, journal_of}
+use Rattle.zj_area.specs.Ring.{Holds}
+use Rattle.zj_closure.specs.Found.{IsFoundAs, Journals, end_of, records_of, tail_of}
+use Rattle.zj_closure.specs.Kept.{AreKept}
+use Rattle.zj_closure.specs.Recovered.{kept_records, recovered}
+use Rattle.zj_turns.specs.Passes.{CacheParameters}
+use Rattle.zj_core.specs.Core.{CoreState}
+use Rattle.zj_session.specs.Logging.{AreSealed, Standing, end_behind, failed_after, running_after, tail_at}
+use Rattle.zj_session.specs.Played.{Played}
+
+-- ---- what the journals keep
+
+-- The bytes of a journal hold the first of these records, so many.
+pub record HoldsFirst (sizes : Numbers) (core : ℕ) (tail : Tail) (records : List Record) (count : ℕ) (image : List ℕ) : Type 0 where
+  pub within : count ≤ length records
+  pub end : Tail
+  pub holds : Holds sizes core image tail (take count records) end
+
+-- Whatever a crash leaves of a journal, at a moment from this one on, holds some of the records that its core sealed, from the first on.
+-- While no commit has failed it is at rest with all of them.
+pub record KeepsRecords (from : ℕ) (j : JournalView) (records : List Record) : Type 0 where
+  pub images : EachImageSince from j.disk (λ image. (count : ℕ) × HoldsFirst j.sizes j.core j.tail records count image)
+  pub at_rest : j.failed ≡ false → IsAtRest j records
+  pub end : j.failed ≡ false → j.end ≡ end_behind j.sizes j.tail records
+
+-- An operation of the core with this number would go on with the numbers of a history.
+pub record IsNextNumber (first : Bounds) (history : List Operation) (core number : ℕ) : Type 0 where
+  pub begins : last_number core history ≡ None → number ≡ first core
+  pub goes_on : (last : ℕ) → last_number core history ≡ Some last → (number ≡ last) ⊎ (number ≡ last + 1)
+
+-- What a core has logged of a history since a moment: its journal, which begins at the tail, keeps the records of all its transactions
+-- before the one that runs.
+pub record HasLogged {D : Type 0} (view : D → DiskView) (from : ℕ) (tails : List Tail) (core : ℕ) (c : CoreState D) (history : List Operation) (records : List Record) : Type 0 where
+  pub tail : c.area.tail ≡ tail_at tails core
+  pub keeps : KeepsRecords from (journal_of view c.area) records
+  pub sealed : AreSealed c.sizes core c.area.tail history records
+  pub number : c.running.number ≡ c.area.tail.number + length records
+  pub next : IsNextNumber (tail_of tails) history core c.running.number
+
+-- A core runs the transaction that lines tell, or, where a commit of it has failed, the one behind it.
+pub record RunsAsTold {D : Type 0} (standing : Standing) (played : List Played) (core : ℕ) (c : CoreState D) : Type 0 where
+  pub failed : c.area.failed ≡ failed_after standing played core
+  pub number : c.area.failed ≡ false → c.running.number ≡ (running_after standing played core).number
+
+-- What cores that serve calls have logged of their history, each since a moment: the history's numbers begin at the tails, and each core's
+-- journal keeps its records.
+pub record AreLogged {D : Type 0} (view : D → DiskView) (from : List ℕ) (tails : List Tail) (cores : List (CoreState D)) (history : List Operation) (sealed : Journals) : Type 0 where
+  pub numbered : AreNumbered (tail_of tails) history
+  pub many : length sealed ≡ length cores
+  pub each : (i : ℕ) (c : CoreState D) → slice_get cores i ≡ Some c → HasLogged view (slice_index from i) tails i c history (records_of sealed i)
+
+-- and they stand as lines tell
+abbrev pub StandAsTold : {D : Type 0} → Standing → List Played → List (CoreState D) → Type 0
+StandAsTold {D} standing played cores = (i : ℕ) (c : CoreState D) → slice_get cores i ≡ Some c → RunsAsTold standing played i c
+
+-- ---- what recovery makes of a crash
+
+-- Of a cut of a history, which begins on these blocks with this tree: it is a consistent cut, and no greater one was found. What is recovered
+-- is the state after it, which shows the tree that the plain service makes of the calls in the cut, in turn, and these had the service's
+-- replies.
+pub record IsCutFound (sizes : Numbers) (start : BlockState) (tree : FileTree) (calls : List Call) (replies : List Reply) (history : List Operation)
+    (tails : Bounds) (found : Journals) (home : BlockState) (kept : Bounds) : Type 0 where
+  pub consistent : IsConsistentCut history kept
+  pub greatest : (bounds : Bounds) → IsConsistentCut history bounds → ((core : ℕ) → bounds core ≤ end_of tails found core) → (core : ℕ) → bounds core ≤ kept core
+  pub state : recovered (kept_records found kept) home ≡ after start (cut history kept)
+  pub shows : Shows sizes (after start (cut history kept)) (tree_after (limits_of sizes) tree (chosen history kept calls))
+  pub replies_are : chosen history kept replies ≡ replies_from (limits_of sizes) tree (chosen history kept calls)
+
+-- What is found in images of home and of the journals, home first: records in each journal, each of which is the transaction of its core
+-- and number; and blocks in home. Whatever is the greatest consistent cut found of them, recovery leaves that cut of the history.
+pub record RecoversCut (sizes : Numbers) (tails : List Tail) (start : BlockState) (tree : FileTree) (calls : List Call) (replies : List Reply) (history : List Operation)
+    (images : List (List ℕ)) : Type 0 where
+  pub found : Journals
+  pub many : length found ≡ sizes.cores
+  pub holds : (core : ℕ) (image : List ℕ) → core < sizes.cores → slice_get images (core + 1) ≡ Some image → (end : Tail) × Holds sizes core image (tail_at tails core) (records_of found core) end
+  pub transactions : (t : Writer) (r : Record) → IsFoundAs (tail_of tails) found t r → IsFrozen history t r
+  pub home : BlockState
+  pub many_blocks : length home ≡ sizes.blocks
+  pub blocks : (image : List ℕ) → slice_get images 0 ≡ Some image → HoldsBlocks image home (length home)
+  pub recovers : (kept : Bounds) → AreKept (tail_of tails) found kept → IsCutFound sizes start tree calls replies history (tail_of tails) found home kept
+
+-- The images of home and of journals, home first, that a crash within these spans may leave, recover to a cut of the history.
+abbrev pub CrashesRecover : List DiskView → List Span → Numbers → List Tail → BlockState → FileTree → List Call → List Reply → List Operation → Type 0
+CrashesRecover disks spans sizes tails start tree calls replies history =
+    (moments : List ℕ) (images : List (List ℕ)) → IsCrashSet disks spans moments images → RecoversCut sizes tails start tree calls replies history images
