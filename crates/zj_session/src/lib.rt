@@ -14,6 +14,16 @@
 //!   that shows a tree and has what the handle had before; `ready` comes where the call is performed on what the handle has. A stop
 //!   that finds no room leaves its handle what it took: the block of the root's node, and others that its call may take.
 //! - Replies that fit are the plain service's in turn (`laws::fit_is_run`).
+//! - **What the answers say of transactions is right** (`FitsLog`, `IsRightOfLog`): a ticket belongs to the core's running transaction;
+//!   `committed` names that and comes only where it has an operation; `empty` comes exactly where it has none; `full` exactly where it
+//!   has none, a handle is to be begun and a longest record has no room behind the records of those before it; `txfull` tells how
+//!   many blocks the transaction has and the call would add; `failed` comes exactly where a commit of the core has failed, and
+//!   the journal's count of faults rose where one did (`rose`). `Ended::fault` is of the lowest such core (clause `ended`).
+//! - **Crashes** (`logged`, `AreLogged`, and the law `laws::round_recovers`): at each moment since the service was started, whatever a crash
+//!   leaves of a journal holds the first of its core's transactions, as many as reached it. So whatever a crash leaves of home and the
+//!   journals, each at a moment of its own, the records found in each are transactions of its core from the tail on, and whatever is
+//!   the greatest consistent cut found is one of the history: what is recovered is the state after it, which shows the tree that the
+//!   plain service makes of its calls.
 //! - `play` ends with no handle open, also where memory runs out: then the answers are those of the lines so far. Only
 //!   commits make device calls, each on the journal of its core.
 //! - `Service::start` makes a service whose history is empty, over the blocks that were recovered; where memory runs out it gives
