@@ -1,6 +1,6 @@
 -- An image that was opened, read and closed.
 use Rattle.std.proofs.Common.{◌≡◌, ◌⊎◌, ℕ, ◌<◌, ◌+◌, ◌∙◌, ap, ◌≤◌, List, [], ◌∷◌, length, refl, sym, subst, arith, inl, inr}
-use Rattle.std.specs.Prelude.{◌-◌, ◌++◌, Option, Some, None, IfSome, IsSomeAnd, MatchOption, map, slice_get, slice_index_or, zero, suc}
+use Rattle.std.specs.Prelude.{◌-◌, ◌++◌, Option, Some, None, IfSome, IsSomeAnd, MatchOption, map, slice_get, slice_index_or, zero, suc, ⊤}
 use Rattle.std.specs.List.{flat_map, range_with_len}
 use Rattle.std.specs.Option.{option_map, unwrap_or}
 use Rattle.std.proofs.lemmas.List.{length-map}
@@ -35,15 +35,16 @@ use Rattle.zj_mount.specs.Inspecting.{AreFound, AreJournals, AreOnlyRead, HoldKe
 use Rattle.zj_mount.specs.Recovered.{Restored}
 use Rattle.zj_mount.specs.Mounting.{AreEmpty, AreInOrder, FailsIn, HasTree, IsHomeCause, IsJournalOf, IsMountCause, IsUsedCause}
 use Rattle.zj_mount.specs.Opening.{IsOfSet, IsOpenCause}
+use Rattle.zj_mount.specs.Settling.{IsSettleCause}
 use Rattle.zj_mount.specs.Scanning.{AreCounted, AreaHolds, AreRead, FailsAt, HoldsSome, IsDamagedAt}
-use Rattle.zj_mount.specs.Set.{IsBack, IsClosed, IsLent, IsOut, IsPutBack, home_name, journal_name}
-use Rattle.zj_mount.proofs.SetLemmas.{rose_put}
+use Rattle.zj_mount.specs.Set.{IsBack, IsClosed, IsLent, IsOut, IsPutBack, WentTo, home_name, journal_name}
 use Rattle.zj_cli.specs.declared.status.Fault.{Fault}
 use Rattle.zj_cli.specs.declared.status.Fault.TheVariants as faults
 use Rattle.zj_cli.specs.declared.status.ImageFault.TheVariants as images
 use Rattle.zj_cli.specs.declared.check.Telling.{Telling}
 use Rattle.zj_cli.specs.declared.check.Telling.TheVariants as tellings
 use Rattle.zj_cli.specs.Check.{AllHold, IsDeviceCause, IsDevicesCause, IsHeld, IsImageCause, IsReadingCause, IsReadTo, IsTold, JournalHolds, OfJournal, Spelling, Tells, check_text, journal_text, restored_text, size_text, tally_text, dump_text, spelling_of, telling_text, tree_text}
+use Rattle.zj_cli.specs.Phases.{JournalFails}
 use Rattle.zj_cli.specs.Faults.{fault_of_mounting, fault_of_opening}
 use Rattle.zj_cli.specs.Mount.{HoldNothing, IsAtRest, IsFirstUsed, Mounts}
 use Rattle.zj_cli.proofs.PlayLemmas.{IsTreesCause}
@@ -173,7 +174,42 @@ out_read view before now home home' old new out reads read = record {
     one (Some a) None core lent reads = absurd reads
     one (Some a) (Some b) core lent reads = lent_reads (before (journal_name core)) (now (journal_name core)) (view a.device) (view b.device) lent reads
 
-module _ {D : Type 0} (view : D → DiskView) (before mid now : ShelfView) (home home' : DiskView) (old new : List (AreaView D)) (super : Super) (out : IsOut view before mid home old) (closed : IsClosed view before now home' new) (in_order : AreInOrder super old)
+-- ---- closing
+
+-- The device that stood under a name stands there again, as this one.
+abbrev pub IsAgain : Slot → Slot → DiskView → Type 0
+IsAgain before now disk = WentTo (Stands disk) (λ stood. ⊤) before now
+
+-- Home and each journal do.
+pub record AreAgain {D : Type 0} (view : D → DiskView) (before now : ShelfView) (home : DiskView) (areas : List (AreaView D)) : Type 0 where
+  pub home_again : IsAgain (before home_name) (now home_name) home
+  pub journals : (core : ℕ) → core < 8 → MatchOption (slice_get areas core) ⊤ (λ area. IsAgain (before (journal_name core)) (now (journal_name core)) (view area.device))
+
+again_put : (slot now : Slot) (d : DiskView) → IsPutBack slot now d → IsAgain slot now d
+again_put Untold now d put = put
+again_put (Stands stood) now d put = (put.0, tt)
+again_put Absent now d put = put
+again_put Out now d put = put
+
+-- those that were only read do
+pub read_again : {D : Type 0} (view : D → DiskView) (before now : ShelfView) (home : DiskView) (areas : List (AreaView D)) → IsClosed view before now home areas → AreAgain view before now home areas
+read_again view before now home areas closed = record {
+  home_again = again_put (before home_name) (now home_name) home closed.home_back;
+  journals = λ core fits. one (slice_get areas core) core (closed.journals core fits);
+}
+  where
+    one : (o : Option (AreaView _)) (core : ℕ) → MatchOption o (IsBack (before (journal_name core)) (now (journal_name core))) (λ area. IsPutBack (before (journal_name core)) (now (journal_name core)) (view area.device))
+        → MatchOption o ⊤ (λ area. IsAgain (before (journal_name core)) (now (journal_name core)) (view area.device))
+    one None core back = tt
+    one (Some a) core put = again_put (before (journal_name core)) (now (journal_name core)) (view a.device) put
+
+rose_again : (slot now : Slot) (from d : DiskView) → IsAgain slot now d → ((stood : DiskView) → slot ≡ Stands stood → stood.faults ≤ from.faults) → Rose from.faults d.faults → RoseUnder slot now
+rose_again Untold now from d again least rose = tt
+rose_again (Stands stood) now from d again least rose = subst (λ (s : Slot). RoseUnder (Stands stood) s) (sym again.0) (rose_since stood.faults from.faults d.faults (least stood refl) rose)
+rose_again Absent now from d again least rose = absurd again
+rose_again Out now from d again least rose = absurd again
+
+module _ {D : Type 0} (view : D → DiskView) (before mid now : ShelfView) (home home' : DiskView) (old new : List (AreaView D)) (super : Super) (out : IsOut view before mid home old) (again : AreAgain view before now home' new) (in_order : AreInOrder super old)
     (has_home : HasHome before super) (has_journals : HasJournals before super super.sizes.cores) where
   fits_at : (core : ℕ) (a : AreaView D) → slice_get old core ≡ Some a → (core < 8) × (core < super.sizes.cores)
   fits_at core a here = let below = slice_get_within old core a here in (omega (arith, below, in_order.few), omega (arith, below, in_order.many))
@@ -245,11 +281,23 @@ module _ {D : Type 0} (view : D → DiskView) (before mid now : ShelfView) (home
 
   -- ---- why one of them was not read
 
+  -- where the device of an area failed, the one that stands under its name did
+  rose_at : (core : ℕ) (a b : AreaView D) → slice_get old core ≡ Some a → slice_get new core ≡ Some b → FailsAt view a b → RoseUnder (before (journal_name core)) (now (journal_name core))
+  rose_at core a b here there rose =
+      let stands : IsAgain (before (journal_name core)) (now (journal_name core)) (view b.device) = rw there at (again.journals core (fits_at core a here).0) in
+      rose_again (before (journal_name core)) (now (journal_name core)) (view a.device) (view b.device) stands (lent_faults (before (journal_name core)) (mid (journal_name core)) (view a.device) (lent_at core a here)) rose
+
+  pub rose_under : (core : ℕ) → JournalFails view old new core → (core < super.sizes.cores) × RoseUnder (before (journal_name core)) (now (journal_name core))
+  rose_under core fails = by (slice_get old core) (slice_get new core) refl refl fails
+    where
+      by : (o o' : Option (AreaView D)) → slice_get old core ≡ o → slice_get new core ≡ o' → IsSomeAnd o (λ a. IsSomeAnd o' (λ b. FailsAt view a b)) → (core < super.sizes.cores) × RoseUnder (before (journal_name core)) (now (journal_name core))
+      by None o' e e' h = absurd h
+      by (Some a) None e e' h = absurd h
+      by (Some a) (Some b) e e' h = ((fits_at core a e).1, rose_at core a b e e' h)
+
   failed_at : (f f' core : ℕ) (a b : AreaView D) → slice_get old core ≡ Some a → slice_get new core ≡ Some b → AllHold before super core → FailsAt view a b → IsDeviceCause before now f f' (devices.Journal core)
   failed_at f f' core a b here there hold rose =
-      let put : IsPutBack (before (journal_name core)) (now (journal_name core)) (view b.device) = rw there at (closed.journals core (fits_at core a here).0) in
-      inr (read_to core a (λ super. RoseUnder (before (journal_name core)) (now (journal_name core))) here hold
-      (rose_put (before (journal_name core)) (now (journal_name core)) (view a.device) (view b.device) put (lent_faults (before (journal_name core)) (mid (journal_name core)) (view a.device) (lent_at core a here)) rose))
+      inr (read_to core a (λ super. RoseUnder (before (journal_name core)) (now (journal_name core))) here hold (rose_at core a b here there rose))
 
   damaged_at : (core at found expected : ℕ) (a : AreaView D) → slice_get old core ≡ Some a → AllHold before super core → IsDamagedAt view a at found expected → IsImageCause before (images.Damaged (devices.Journal core) at found expected)
   damaged_at core at found expected a here hold is =
@@ -278,7 +326,7 @@ module _ {D : Type 0} (view : D → DiskView) (before mid now : ShelfView) (home
 
   -- and so is why what is kept gives no tree, or that it shows none
   recover_cause : (f f' : ℕ) (told : MountFault) (found : Journals) (kept : Bounds) → HoldKept super (map (journal_of view) old) found kept → IsRecoverCause super.sizes home home' (kept_records found kept) told → IsDevicesCause before now f f' (fault_of_mounting told)
-  recover_cause f f' (mounts.DiskFault devices.Home) found kept holds rose = inr (rose_put (before home_name) (now home_name) home home' closed.home_back (lent_faults (before home_name) (mid home_name) home out.home_lent) rose)
+  recover_cause f f' (mounts.DiskFault devices.Home) found kept holds rose = inr (rose_again (before home_name) (now home_name) home home' again.home_again (lent_faults (before home_name) (mid home_name) home out.home_lent) rose)
   recover_cause f f' (mounts.DiskFault (devices.Journal core)) found kept holds is = absurd is
   recover_cause f f' (mounts.Damaged device at found' expected) found kept holds is = absurd is
   recover_cause f f' (mounts.NoTree rule block) found kept holds is =
@@ -314,7 +362,7 @@ module _ {D : Type 0} (view : D → DiskView) (before mid now : ShelfView) (home
   -- why the journals are not all read and empty is why there is none
   used_cause : (f f' : ℕ) (told : MountFault) → IsUsedCause view old new told → IsTreesCause before now f f' (fault_of_mounting told)
   used_cause f f' (mounts.DiskFault devices.Home) is = absurd is
-  used_cause f f' (mounts.DiskFault (devices.Journal core)) is = at (slice_get old core) (slice_get new core) refl refl is.1
+  used_cause f f' (mounts.DiskFault (devices.Journal core)) is = inl (at (slice_get old core) (slice_get new core) refl refl is.1)
     where
       at : (o o' : Option (AreaView D)) → slice_get old core ≡ o → slice_get new core ≡ o' → IsSomeAnd o (λ a. IsSomeAnd o' (λ b. FailsAt view a b)) → IsDeviceCause before now f f' (devices.Journal core)
       at None o' e e' h = absurd h
@@ -347,7 +395,7 @@ module _ {D : Type 0} (view : D → DiskView) (before mid now : ShelfView) (home
   -- and so is why home gives none
   home_cause : (f f' : ℕ) (d d' : D) (told : MountFault) → view d ≡ home → view d' ≡ home' → AreEmpty view old (length old) → IsHomeCause view super d d' told → IsTreesCause before now f f' (fault_of_mounting told)
   home_cause f f' d d' (mounts.DiskFault devices.Home) same same' empty rose =
-      inr (rose_put (before home_name) (now home_name) home home' closed.home_back (lent_faults (before home_name) (mid home_name) home out.home_lent) (rw (same, same') at rose))
+      inr (rose_again (before home_name) (now home_name) home home' again.home_again (lent_faults (before home_name) (mid home_name) home out.home_lent) (rw (same, same') at rose))
   home_cause f f' d d' (mounts.DiskFault (devices.Journal core)) same same' empty is = absurd is
   home_cause f f' d d' (mounts.Damaged device at found expected) same same' empty is = absurd is
   home_cause f f' d d' (mounts.Unbuilt device) same same' empty is = absurd is
@@ -355,9 +403,20 @@ module _ {D : Type 0} (view : D → DiskView) (before mid now : ShelfView) (home
       inr (inr (rule, block, super, refl, at_rest empty, of_lent (before home_name) (mid home_name) home (λ image. FailsIn super.sizes image rule block) out.home_lent (subst (λ (x : DiskView). IfSome x.bytes (λ image. FailsIn super.sizes image rule block)) same none)))
   home_cause f f' d d' mounts.NoMemory same same' empty is = tt
 
+  -- and so is why a device was not settled
+  settle_cause : (f f' : ℕ) (d d' : D) (told : MountFault) → view d ≡ home → view d' ≡ home' → IsSettleCause view d d' old new told → IsTreesCause before now f f' (fault_of_mounting told)
+  settle_cause f f' d d' (mounts.DiskFault devices.Home) same same' rose =
+      inr (rose_again (before home_name) (now home_name) home home' again.home_again (lent_faults (before home_name) (mid home_name) home out.home_lent) (rw (same, same') at rose))
+  settle_cause f f' d d' (mounts.DiskFault (devices.Journal core)) same same' fails = let rose = rose_under core fails in inr (super, has_home, has_journals, rose.0, rose.1)
+  settle_cause f f' d d' (mounts.Damaged device at found expected) same same' is = absurd is
+  settle_cause f f' d d' (mounts.Unbuilt device) same same' is = absurd is
+  settle_cause f f' d d' (mounts.NoTree rule block) same same' is = absurd is
+  settle_cause f f' d d' mounts.NoMemory same same' is = absurd is
+
   pub mount_cause : (f f' : ℕ) (d d' : D) (fault : Fault) → view d ≡ home → view d' ≡ home' → (told : MountFault) × (fault ≡ fault_of_mounting told) × IsMountCause view super d d' old new told → IsTreesCause before now f f' fault
-  mount_cause f f' d d' fault same same' (told, is, inl used) = subst (λ (x : Fault). IsTreesCause before now f f' x) (sym is) (used_cause f f' told used)
-  mount_cause f f' d d' fault same same' (told, is, inr (empty, cause)) = subst (λ (x : Fault). IsTreesCause before now f f' x) (sym is) (home_cause f f' d d' told same same' empty cause)
+  mount_cause f f' d d' fault same same' (told, is, inl settle) = subst (λ (x : Fault). IsTreesCause before now f f' x) (sym is) (settle_cause f f' d d' told same same' settle)
+  mount_cause f f' d d' fault same same' (told, is, inr (inl used)) = subst (λ (x : Fault). IsTreesCause before now f f' x) (sym is) (used_cause f f' told used)
+  mount_cause f f' d d' fault same same' (told, is, inr (inr (empty, cause))) = subst (λ (x : Fault). IsTreesCause before now f f' x) (sym is) (home_cause f f' d d' told same same' empty cause)
 
   -- ---- why one of them was not closed
 

@@ -4,8 +4,12 @@ pub mod DumpLemmas
 pub mod PlayableLemmas
 pub mod ReadyLemmas
 pub mod StreamLemmas
+pub mod PhaseLemmas
 pub mod WordLemmas
 pub mod Ends
 pub mod PlayLemmas
+pub mod RoundLemmas
+pub mod SessionLemmas
 pub mod CheckLemmas
+pub mod ShelfLemmas
 pub mod MakeLemmas

@@ -15,95 +15,104 @@ use Rattle.zj_tree.specs.Tree.{FileTree}
 use Rattle.zj_script.specs.declared.line.Line.{Line}
 use Rattle.zj_script.specs.Answers.{answer_text}
 use Rattle.zj_script.specs.Script.{IsSchedule}
+use Rattle.zj_cli.specs.declared.phase.Phase.{Phase}
 use Rattle.zj_cli.specs.declared.status.Fault.{Fault}
 use Rattle.zj_cli.specs.declared.status.Fault.TheVariants as faults
-use Rattle.zj_cli.specs.Asked.{AreBuilt}
+use Rattle.zj_cli.specs.Asked.{RefusesInput}
 use Rattle.zj_cli.specs.Outside.{Outside}
 use Rattle.zj_dev.specs.Shelf.{ShelfView}
-use Rattle.zj_cli.specs.Check.{IsDeviceCause}
 use Rattle.zj_cli.specs.Mount.{IsTreeCause}
-use Rattle.zj_cli.specs.Play.{IsUnread, PlayEnds, Plays, PlaysFrom, ReadsInput, ScriptEnds, StopsEarly}
+use Rattle.zj_cli.specs.Play.{IsInputCause, IsMountDeviceCause, IsUnmounted, IsUnread, PlayEnds, PlaysFrom, Reads, ReadsInput, StopsEarly}
+use Rattle.zj_cli.specs.Faults.{fault_of_opening}
+use Rattle.zj_dev.specs.declared.device.Device.TheVariants as devices
+use Rattle.zj_mount.specs.declared.fault.OpenFault.{OpenFault}
+use Rattle.zj_mount.specs.declared.fault.OpenFault.TheVariants as opens
+use Rattle.zj_mount.specs.Opening.{IsOpenCause}
 use Rattle.zj_cli.proofs.Ends.{FailsToClose}
-
-module _ (sizes : Numbers) (start : State) (tree : FileTree) (before after : Outside) (read : List ℕ) (lines : List Line) (played : List Played) (history : List Operation) (answers : List ℕ)
-    (input : ReadsInput before.left after.left read) (is_schedule : IsSchedule sizes.cores read lines) (built : AreBuilt lines) (all_played : map (λ (p : Played). p.0) played ≡ lines)
-    (fit : Fit sizes start [] played history) (run : IsRun sizes tree played) (text : answers ≡ flat_map answer_text (map answer_of played)) where
-  plays : (written rest : List ℕ) → written ++ rest ≡ answers → Took before.held after.held written → Plays sizes start tree before after rest
-  plays written rest all took = record {
-    read = read;
-    lines = lines;
-    played = played;
-    history = history;
-    written = written;
-    input = input;
-    is_schedule = is_schedule;
-    built = built;
-    all_played = all_played;
-    fit = fit;
-    run = run;
-    text = all ∙ text;
-    took = took;
-  }
-
-  pub script_ends : {T : Type 0} → (wrote : Result T Fault) → after.input_faults ≡ before.input_faults
-      → OnOk wrote (Took before.held after.held answers) → OnOk wrote (after.output_faults ≡ before.output_faults)
-      → OnErr wrote ((front rest : List ℕ) × (front ++ rest ≡ answers) × Took before.held after.held front)
-      → IfErr wrote (λ fault. (fault ≡ faults.Output) × Rose before.output_faults after.output_faults)
-      → ScriptEnds sizes start tree before after (result_err wrote)
-  script_ends (Ok x) input_quiet took quiet part cause = (plays answers [] (append-nil answers) took, input_quiet, quiet)
-  script_ends (Err fault) input_quiet took quiet part cause =
-      subst (λ (f : Fault). ScriptEnds sizes start tree before after (Some f)) (sym cause.0) ((part.1, plays part.0 part.1 part.2 part.3), cause.1)
 
 -- what was written in the transcript is what all lines played are answered
 pub transcribed : (old new answers : List Answer) (played : List Played) (text : List ℕ) → old ≡ [] → new ≡ old ++ answers → answers ≡ map answer_of played → text ≡ flat_map answer_text new → text ≡ flat_map answer_text (map answer_of played)
 transcribed old new answers played text none adds are spelled = spelled ∙ ap (flat_map answer_text) (adds ∙ ap (λ (front : List Answer). front ++ answers) none ∙ are)
+
+-- ---- why no schedule was read
+
+pub input_failed : (cores : ℕ) (left now : Option (List ℕ)) (f f' : ℕ) (fault : Fault) → (read : List ℕ) × Reads left now read → (fault ≡ faults.Memory) ⊎ ((fault ≡ faults.Input) × Rose f f') → IsInputCause cores left now f f' fault
+input_failed cores left now f f' fault read (inl memory) = subst (IsInputCause cores left now f f') (sym memory) read
+input_failed cores left now f f' fault read (inr input) = subst (IsInputCause cores left now f f') (sym input.0) (read, input.1)
+
+pub input_refused : (cores : ℕ) (left now : Option (List ℕ)) (f f' : ℕ) (text : List ℕ) (fault : Fault) → RefusesInput cores text fault → ReadsInput left now text → IsInputCause cores left now f f' fault
+input_refused cores left now f f' text (faults.Script kind line column) place input = (text, input, place)
+input_refused cores left now f f' text faults.Memory refused input = (text, input.reads)
+input_refused cores left now f f' text faults.Words refused input = cc
+input_refused cores left now f f' text (faults.Image fault) refused input = cc
+input_refused cores left now f f' text (faults.Device device) refused input = cc
+input_refused cores left now f f' text faults.Input refused input = cc
+input_refused cores left now f f' text faults.Output refused input = cc
 
 -- ---- how `play` ends, by how the script was played and how the devices were closed
 
 -- why the devices give no tree
 abbrev pub IsTreesCause : ShelfView → ShelfView → ℕ → ℕ → Fault → Type 0
 IsTreesCause before now old new (faults.Image fault) = IsTreeCause before fault
-IsTreesCause before now old new (faults.Device device) = IsDeviceCause before now old new device
+IsTreesCause before now old new (faults.Device device) = IsMountDeviceCause before now old new device
 IsTreesCause before now old new faults.Memory = ⊤
 IsTreesCause before now old new fault = ⊥
 
-module _ (before after : Outside) where
+module _ (before after : Outside) (phases : List Phase) where
   -- the script was played, or not read at all
   abbrev pub IsPlayed : {T : Type 0} → Result T Fault → Type 0
-  IsPlayed played = PlaysFrom before after (result_err played)
-      ⊎ (IfErr played (IsTreesCause before.names after.names before.shelf_faults after.shelf_faults) × IsErr played × IsUnread before after)
+  IsPlayed played = PlaysFrom before after phases (result_err played)
+      ⊎ (IfErr played (IsTreesCause before.names after.names before.shelf_faults after.shelf_faults) × IsErr played × IsUnmounted before after phases)
 
-  early : IsUnread before after → StopsEarly before after
+  pub early : IsUnread before after → StopsEarly before after
   early unread = record { read = []; reads = record { gave = none before.left after.left unread.0; at_most = omega arith }; unwritten = unread.1 }
     where
       none : (old new : Option (List ℕ)) → new ≡ old → old ≡ option_map (λ rest. [] ++ rest) new
       none None new e = sym (ap (option_map (λ rest. [] ++ rest)) e)
       none (Some rest) new e = sym (ap (option_map (λ rest. [] ++ rest)) e)
 
-  script : (fault : Fault) → PlaysFrom before after (Some fault) → PlayEnds before after (Some fault)
+  script : (fault : Fault) → PlaysFrom before after phases (Some fault) → PlayEnds before after phases (Some fault)
   script (faults.Script kind line column) plays = plays
   script faults.Memory plays = plays.script
   script faults.Input plays = plays
   script faults.Output plays = plays
   script faults.Words plays = absurd plays.script
   script (faults.Image fault) plays = absurd plays.script
-  script (faults.Device device) plays = absurd plays.script
+  script (faults.Device device) plays = inr (inr plays)
 
-  unplayed : (fault : Fault) → IsTreesCause before.names after.names before.shelf_faults after.shelf_faults fault → IsUnread before after → PlayEnds before after (Some fault)
-  unplayed (faults.Image fault) cause unread = (cause, unread)
-  unplayed (faults.Device device) cause unread = (cause, inl unread)
-  unplayed faults.Memory cause unread = early unread
-  unplayed faults.Words cause unread = absurd cause
-  unplayed (faults.Script kind line column) cause unread = absurd cause
-  unplayed faults.Input cause unread = absurd cause
-  unplayed faults.Output cause unread = absurd cause
+  pub unplayed : (fault : Fault) → IsTreesCause before.names after.names before.shelf_faults after.shelf_faults fault → IsUnmounted before after phases → PlayEnds before after phases (Some fault)
+  unplayed (faults.Image fault) cause none = (cause, none)
+  unplayed (faults.Device device) cause none = inl (cause, none)
+  unplayed faults.Memory cause none = early none.0
+  unplayed faults.Words cause none = absurd cause
+  unplayed (faults.Script kind line column) cause none = absurd cause
+  unplayed faults.Input cause none = absurd cause
+  unplayed faults.Output cause none = absurd cause
 
   dead : {T : Type 0} (x : T) → IsErr {T = T} {E = Fault} (Ok x) → ⊥
   dead x is = cc
 
-  pub play_ends : {T U : Type 0} (played : Result T Fault) (closed : Result U Fault) → IsPlayed played → OnOk closed (after.shelf_faults ≡ before.shelf_faults) → IfErr closed (FailsToClose before after) → PlayEnds before after (result_err (result_and played closed))
+  pub play_ends : {T U : Type 0} (played : Result T Fault) (closed : Result U Fault) → IsPlayed played → OnOk closed (after.shelf_faults ≡ before.shelf_faults) → IfErr closed (FailsToClose before after) → PlayEnds before after phases (result_err (result_and played closed))
   play_ends (Ok x) (Ok y) (inl from) quiet failed = (from, quiet)
-  play_ends (Ok x) (Err fault) (inl from) quiet failed = subst (λ (f : Fault). PlayEnds before after (Some f)) (sym failed.1) (failed.2, inr (from, failed.3))
+  play_ends (Ok x) (Err fault) (inl from) quiet failed = subst (λ (f : Fault). PlayEnds before after phases (Some f)) (sym failed.1) (inr (inl (from, failed.3)))
   play_ends (Ok x) closed (inr none) quiet failed = absurd (dead x none.1)
   play_ends (Err fault) closed (inl from) quiet failed = script fault from
   play_ends (Err fault) closed (inr none) quiet failed = unplayed fault none.0 none.2
+
+-- ---- why an image was not opened
+
+open_trees : (before now : ShelfView) (f f' : ℕ) (fault : OpenFault) → IsOpenCause before now f f' fault → IsTreesCause before now f f' (fault_of_opening fault)
+open_trees before now f f' (opens.DiskFault devices.Home) cause = inr cause
+open_trees before now f f' (opens.DiskFault (devices.Journal core)) cause = absurd cause
+open_trees before now f f' (opens.ShelfFault devices.Home) cause = inl cause
+open_trees before now f f' (opens.ShelfFault (devices.Journal core)) cause = inl (inl cause)
+open_trees before now f f' opens.NoMemory cause = tt
+open_trees before now f f' (opens.Absent device) cause = inl cause
+open_trees before now f f' (opens.NotAnImage at) cause = inl cause
+open_trees before now f f' (opens.Version found) cause = inl cause
+open_trees before now f f' (opens.Sizes device found expected) cause = inl cause
+
+pub unopened : (before after : Outside) (phases : List Phase) (opening : OpenFault) (fault : Fault) → fault ≡ fault_of_opening opening → IsOpenCause before.names after.names before.shelf_faults after.shelf_faults opening → IsUnread before after → phases ≡ []
+    → PlayEnds before after phases (Some fault)
+unopened before after phases opening fault is cause unread none =
+    subst (λ (f : Fault). PlayEnds before after phases (Some f)) (sym is) (unplayed before after phases (fault_of_opening opening) (open_trees before.names after.names before.shelf_faults after.shelf_faults opening cause) (unread, inl none))

@@ -47,7 +47,7 @@ handled acts.Take is = tt
 handled acts.Stop is = tt
 handled acts.Drop is = tt
 handled acts.Look is = cc
-handled acts.Commit is = cc
+handled acts.Commit is = tt
 handled acts.Sync is = cc
 handled acts.Checkpoint is = cc
 
@@ -68,7 +68,7 @@ on_core cores (Some c) acts.Take has is = grind arith
 on_core cores (Some c) acts.Stop has is = grind arith
 on_core cores (Some c) acts.Drop has is = grind arith
 on_core cores (Some c) acts.Look has is = cc
-on_core cores (Some c) acts.Commit has is = cc
+on_core cores (Some c) acts.Commit has is = grind arith
 on_core cores (Some c) acts.Sync has is = cc
 on_core cores (Some c) acts.Checkpoint has is = cc
 

@@ -11,7 +11,7 @@ use Rattle.zj_script.specs.Script.{IsFrontOfSchedule, IsNoSchedule}
 use Rattle.zj_cli.specs.declared.status.Fault.{Fault}
 use Rattle.zj_cli.specs.declared.status.Fault.TheVariants as faults
 
--- whether an act is built: each whole call is, but for an fsync, and each step of a handle, but for a look
+-- whether an act is built: each whole call is, but for an fsync, each step of a handle, but for a look, and a commit
 abbrev pub is_built : Act → Bool
 is_built (acts.Call (calls.Fsync path)) = false
 is_built (acts.Begin (calls.Fsync path)) = false
@@ -20,6 +20,7 @@ is_built (acts.Begin call) = true
 is_built acts.Take = true
 is_built acts.Stop = true
 is_built acts.Drop = true
+is_built acts.Commit = true
 is_built act = false
 
 -- each line asks for an act that is built

@@ -5,6 +5,8 @@ use Rattle.zj_mount.specs.declared.fault.OpenFault.{OpenFault}
 use Rattle.zj_mount.specs.declared.fault.OpenFault.TheVariants as opens
 use Rattle.zj_script.specs.declared.fault.ScriptFault.{ScriptFault}
 use Rattle.zj_script.specs.declared.fault.ScriptFault.TheVariants as refusals
+use Rattle.zj_session.specs.declared.playing.Stopped.{Stopped}
+use Rattle.zj_session.specs.declared.playing.Stopped.TheVariants as stops
 use Rattle.zj_cli.specs.declared.status.Fault.{Fault}
 use Rattle.zj_cli.specs.declared.status.Fault.TheVariants as faults
 use Rattle.zj_cli.specs.declared.status.ImageFault.TheVariants as images
@@ -31,3 +33,8 @@ fault_of_mounting mounts.NoMemory = faults.Memory
 abbrev pub fault_of_script : ScriptFault → Fault
 fault_of_script (refusals.Refused kind line column) = faults.Script kind line column
 fault_of_script refusals.NoMemory = faults.Memory
+
+-- the fault that ended a schedule
+abbrev pub fault_of_stopping : Stopped → Fault
+fault_of_stopping (stops.Device device) = faults.Device device
+fault_of_stopping (stops.Damaged device at found expected) = faults.Image (images.Damaged device at found expected)

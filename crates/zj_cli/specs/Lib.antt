@@ -1,3 +1,4 @@
+pub mod Phases
 pub mod Outside
 pub mod Faults
 pub mod Tool

@@ -2,6 +2,7 @@
 use Rattle.std.specs.Prelude.{◌≡◌, ◌⊎◌, ℕ, List, [], ◌∷◌, Option, Some, None, codes, decimal, ⊤}
 use Rattle.zj_block.specs.Sizes.{Numbers, IsInLimits, numbers_of}
 use Rattle.zj_block.specs.declared.sizes.TheConstants.{VERSION}
+use Rattle.zj_cli.specs.declared.phase.Phase.{Phase}
 use Rattle.zj_cli.specs.declared.status.Fault.{Fault}
 use Rattle.zj_cli.specs.declared.status.Fault.TheVariants as faults
 use Rattle.zj_cli.specs.declared.status.Status.{Status}
@@ -11,6 +12,10 @@ use Rattle.zj_cli.specs.declared.tool.Reading.TheVariants as readings
 -- the fault that a status tells
 abbrev pub fault_of : Status → Option Fault
 fault_of status = status.fault
+
+-- the phases that a status tells
+abbrev pub phases_of : Status → List Phase
+phases_of status = status.phases.items
 
 -- the code of a fault, and 0 where there is none
 abbrev pub code_of_fault : Option Fault → ℕ

@@ -40,15 +40,15 @@ fn refuse_unbuilt(lines: &[Line]) -> Result<(), Fault>
     Ok(())
 }
 
-/// Whether an act is built: each whole call is, but for an fsync, which waits for receipts, and each step of a handle, but for
-/// a look.
+/// Whether an act is built: each whole call is, but for an fsync, which waits for receipts, each step of a handle, but for a look,
+/// and a commit.
 fn is_built(act: &Act) -> bool
     ensures { result ≡ is_built act.now }
 {
     match act {
         Act::Call(Call::Fsync { .. }) | Act::Begin(Call::Fsync { .. }) => false,
-        Act::Call(_) | Act::Begin(_) | Act::Take | Act::Stop | Act::Drop => true,
-        Act::Look | Act::Commit | Act::Sync | Act::Checkpoint => false,
+        Act::Call(_) | Act::Begin(_) | Act::Take | Act::Stop | Act::Drop | Act::Commit => true,
+        Act::Look | Act::Sync | Act::Checkpoint => false,
     }
 }
 

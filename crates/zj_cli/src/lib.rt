@@ -6,12 +6,15 @@ mod asked;
 mod check;
 mod dump;
 mod make;
+mod phase;
 mod play;
 mod status;
 mod stream;
 mod tool;
 
+pub use phase::{Phase, PhaseKind};
 pub use status::{Fault, ImageFault, Status};
+pub use zj_dev::Span;
 pub use tool::zj_tool;
 
 #[cfg(test)]

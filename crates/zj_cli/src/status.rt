@@ -2,11 +2,13 @@
 
 ghost use Rattle.std.specs.Prelude.{◌≡◌, option_copied};
 
+use crate::phase::Phase;
 use std::alloc::AllocError;
 use thiserror::Error;
 use zj_dev::{Device, ReadFailed, WriteFailed};
 use zj_mount::{CloseFault, MountFault, OpenFault};
 use zj_script::ScriptFault;
+use zj_session::Stopped;
 
 /// Why an image is refused.
 #[derive(Clone, Copy, Debug, PartialEq, Eq, Error)]
@@ -179,6 +181,30 @@ impl From<ScriptFault> for Fault {
     }
 }
 
+impl From<Stopped> for Fault {
+    ghost use Rattle.std.specs.Prelude.{◌≡◌};
+    ghost use Rattle.zj_cli.specs.Faults.{fault_of_stopping};
+
+    ghost from_gives = { λ stopped told. told ≡ fault_of_stopping stopped };
+
+    fn from(stopped: Stopped) -> Fault {
+        match stopped {
+            Stopped::Device(device) => Fault::Device { device },
+            Stopped::Damaged {
+                device,
+                at,
+                found,
+                expected,
+            } => Fault::Image(ImageFault::Damaged {
+                device,
+                at,
+                found,
+                expected,
+            }),
+        }
+    }
+}
+
 impl From<ReadFailed> for Fault {
     ghost use Rattle.std.specs.Prelude.{◌≡◌};
     ghost use Rattle.zj_cli.specs.declared.status.Fault.TheVariants.{Input};
@@ -201,20 +227,22 @@ impl From<WriteFailed> for Fault {
     }
 }
 
-/// The status of a call of the tool: its code, and the fault where there was one.
-#[derive(Clone, Copy, Debug, PartialEq, Eq)]
+/// The status of a call of the tool: its code, the fault where there was one, and the phases of its session.
+#[derive(Debug, PartialEq, Eq, Drop)]
 pub struct Status {
     fault: Option<Fault>,
+    phases: Vec<Phase>,
 }
 
 impl Status {
-    ghost use Rattle.std.specs.Prelude.{◌≡◌, option_copied};
-    ghost use Rattle.zj_cli.specs.Tool.{fault_of, code_of};
+    ghost use Rattle.std.specs.Prelude.{◌≡◌, length, option_copied, slice_get};
+    ghost use Rattle.zj_cli.specs.Tool.{fault_of, code_of, phases_of};
 
-    pub(crate) fn new(fault: Option<Fault>) -> Self
-        ensures { fault_of result ≡ fault }
+    pub(crate) fn new(fault: Option<Fault>, phases: Vec<Phase>) -> Self
+        ensures fault { fault_of result ≡ fault }
+        ensures phases { phases_of result ≡ phases.items }
     {
-        Status { fault }
+        Status { fault, phases }
     }
 
     /// The exit status: 0 where all was done, and else the code of the fault.
@@ -238,5 +266,19 @@ impl Status {
         ensures { option_copied result ≡ fault_of self.now }
     {
         self.fault.as_ref()
+    }
+
+    /// How many phases there were, from the opening of an image to its closing.
+    pub fn phases(&self) -> usize
+        ensures { result ≡ length (phases_of self.now) }
+    {
+        self.phases.len()
+    }
+
+    /// The phase at a place, or `None` exactly from the end on. A mount comes first.
+    pub fn phase(&self, i: usize) -> Option<&Phase>
+        ensures { option_copied result ≡ slice_get (phases_of self.now) i }
+    {
+        self.phases.get(i)
     }
 }

@@ -7,7 +7,7 @@ ghost use Rattle.zj_cli.specs.Check.{RunsCheck, RunsDump};
 ghost use Rattle.zj_cli.specs.Outside.{Outside};
 ghost use Rattle.zj_cli.specs.Make.{MakeEnds};
 ghost use Rattle.zj_cli.specs.Play.{RunsPlay};
-ghost use Rattle.zj_cli.specs.Tool.{Asks, Check, Command, Dump, IsBeforeWriting, Make, Play, command_of, fault_of, size_words, usual_sizes};
+ghost use Rattle.zj_cli.specs.Tool.{Asks, Check, Command, Dump, IsBeforeWriting, Make, Play, command_of, fault_of, phases_of, size_words, usual_sizes};
 
 use crate::check::{check, dump};
 use crate::make::make;
@@ -22,10 +22,12 @@ use zj_script::read_number;
 ///
 /// `make` makes an image on the shelf, whose tree has the root alone; it reads no input and prints nothing.
 ///
-/// `play` opens the image on the shelf, reads a schedule from the input, makes its calls on home's blocks in memory, which
-/// show a tree, and writes their answers to `out`. It writes no device, and closes all that it opened: what the calls did
-/// is gone when it ends. Reading ends at the byte that is one more than a schedule may have. Nothing is written unless the
-/// whole schedule was read and all its calls have run.
+/// `play` opens the image on the shelf, mounts it, reads a schedule from the input, runs its lines on cores over home's blocks in memory,
+/// and writes their answers to `out`. A commit writes the running transaction of its core to that core's journal; what was not
+/// committed is gone when it ends. Home is synced and read, and not written. It closes all that it opened. Reading ends at the byte
+/// that is one more than a schedule may have. Nothing is written to `out` unless the whole schedule was read and all its lines
+/// have run. Whatever a crash leaves of the devices at a moment of it, recovery leaves a tree that the calls could have made: the
+/// status tells the moments (`Phase`).
 ///
 /// `check` opens the image on the shelf and writes to `out` what its journals hold and how large the tree is that is
 /// recovered; it reads no input and writes no device, and closes all that it opened.
@@ -49,13 +51,16 @@ pub fn zj_tool<H: Shelf, S: Source, K: Sink>(
         (sizes : Numbers) → Asks (map string_bytes words.now) (Make sizes) → MakeEnds sizes before after (fault_of result) }
     ensures play { let before : Outside = record { left = S.left input.old; held = K.held out.old; names = H.names shelf.old; input_faults = S.faults input.old; output_faults = K.faults out.old; shelf_faults = H.faults shelf.old } in
         let after : Outside = record { left = S.left input.new; held = K.held out.new; names = H.names shelf.new; input_faults = S.faults input.new; output_faults = K.faults out.new; shelf_faults = H.faults shelf.new } in
-        Asks (map string_bytes words.now) Play → RunsPlay before after (fault_of result) }
+        Asks (map string_bytes words.now) Play → RunsPlay before after (phases_of result) (fault_of result) }
     ensures check { let before : Outside = record { left = S.left input.old; held = K.held out.old; names = H.names shelf.old; input_faults = S.faults input.old; output_faults = K.faults out.old; shelf_faults = H.faults shelf.old } in
         let after : Outside = record { left = S.left input.new; held = K.held out.new; names = H.names shelf.new; input_faults = S.faults input.new; output_faults = K.faults out.new; shelf_faults = H.faults shelf.new } in
         Asks (map string_bytes words.now) Check → RunsCheck before after (fault_of result) }
     ensures dump { let before : Outside = record { left = S.left input.old; held = K.held out.old; names = H.names shelf.old; input_faults = S.faults input.old; output_faults = K.faults out.old; shelf_faults = H.faults shelf.old } in
         let after : Outside = record { left = S.left input.new; held = K.held out.new; names = H.names shelf.new; input_faults = S.faults input.new; output_faults = K.faults out.new; shelf_faults = H.faults shelf.new } in
         Asks (map string_bytes words.now) Dump → RunsDump before after (fault_of result) }
+
+    // Only a session has phases.
+    ensures no_phase { ((command : Command) → Asks (map string_bytes words.now) command → command ≡ Play → ⊥) → phases_of result ≡ [] }
 
     // What is left as it was.
     ensures untouched { fault_of result ≡ Some faults.Words → (input.new ≡ input.old) × (shelf.new ≡ shelf.old) × (out.new ≡ out.old) }
@@ -64,15 +69,17 @@ pub fn zj_tool<H: Shelf, S: Source, K: Sink>(
     ensures streams_untouched { (sizes : Numbers) → Asks (map string_bytes words.now) (Make sizes) → (input.new ≡ input.old) × (out.new ≡ out.old) }
     ensures unwritten { (command : Command) → Asks (map string_bytes words.now) command → IfSome (fault_of result) (λ fault. IsBeforeWriting command fault → out.new ≡ out.old) }
 {
+    let mut phases = Vec::new(alloc);
     if let Some(sizes) = sizes_to_make(words) {
-        return Status::new(make(alloc, shelf, &sizes).err());
+        return Status::new(make(alloc, shelf, &sizes).err(), phases);
     }
-    match read_command(words) {
-        Some(Reading::Play) => Status::new(play(alloc, shelf, input, out).err()),
-        Some(Reading::Check) => Status::new(check(alloc, shelf, out).err()),
-        Some(Reading::Dump) => Status::new(dump(alloc, shelf, out).err()),
-        None => Status::new(Some(Fault::Words)),
-    }
+    let done = match read_command(words) {
+        Some(Reading::Play) => play(alloc, shelf, input, out, &mut phases),
+        Some(Reading::Check) => check(alloc, shelf, out),
+        Some(Reading::Dump) => dump(alloc, shelf, out),
+        None => Err(Fault::Words),
+    };
+    Status::new(done.err(), phases)
 }
 
 /// A command that reads an image.
