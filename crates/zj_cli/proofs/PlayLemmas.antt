@@ -1,4 +1,4 @@
--- How playing a script ends, by how its answers were written.
+-- How `play` ends, by how its schedule was read and played, and how the devices were opened and closed.
 use Rattle.std.proofs.Common.{◌≡◌, ◌⊎◌, inl, inr, ◌++◌, ℕ, List, [], map, Option, Some, None, sym, ap, subst, ◌∙◌, append-nil, arith}
 use Rattle.std.specs.List.{flat_map}
 use Rattle.std.specs.Prelude.{IfErr, IsErr, OnErr, OnOk, Result, Ok, Err, option_map, ⊤}
@@ -29,10 +29,6 @@ use Rattle.zj_mount.specs.declared.fault.OpenFault.{OpenFault}
 use Rattle.zj_mount.specs.declared.fault.OpenFault.TheVariants as opens
 use Rattle.zj_mount.specs.Opening.{IsOpenCause}
 use Rattle.zj_cli.proofs.Ends.{FailsToClose}
-
--- what was written in the transcript is what all lines played are answered
-pub transcribed : (old new answers : List Answer) (played : List Played) (text : List ℕ) → old ≡ [] → new ≡ old ++ answers → answers ≡ map answer_of played → text ≡ flat_map answer_text new → text ≡ flat_map answer_text (map answer_of played)
-transcribed old new answers played text none adds are spelled = spelled ∙ ap (flat_map answer_text) (adds ∙ ap (λ (front : List Answer). front ++ answers) none ∙ are)
 
 -- ---- why no schedule was read
 

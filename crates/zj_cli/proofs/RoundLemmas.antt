@@ -92,8 +92,7 @@ module _ {D : Type 0} (view : D → DiskView) (old new : ServiceState D) (past :
       by : {T : Type 0} (stopped : Stopped) (wrote : Result T Fault) → IsLowestFault (drop (length before) after) (Some stopped) → OnOk wrote (Took held now text) → OnErr wrote ((front rest : List ℕ) × (front ++ rest ≡ text) × Took held now front)
           → IfErr wrote (λ fault. (fault ≡ faults.Output) × Rose f f') → RoundEnds view old new past lines held now f f' (Some (fault_of_stopping stopped))
       by (stops.Device (devices.Journal core)) wrote lowest took front cause =
-          let fails : fails_in plays.played core ≡ true = sym (told_is core) ∙ lowest.0 in
-          (
+          let fails : fails_in plays.played core ≡ true = sym (told_is core) ∙ lowest.0 in (
             wrote_some core wrote (fails, λ lower lt. sym (told_is lower) ∙ lowest.1 lower lt) took front cause,
             below (length old.cores) core plays.played (subst (All (IsPlayable (length old.cores))) (sym plays.lines_are ∙ append-nil (map (λ (p : Played). p.0) plays.played)) playable) fails,
           )

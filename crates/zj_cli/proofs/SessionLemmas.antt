@@ -218,11 +218,11 @@ round_recovered {D = D} law view cache cores areas tails d round ready ended tre
     by [] is ends = absurd (let e = ends ∙ ap (map (λ (x : DiskView). x.calls)) same in cc)
     by (span ∷ spans) is ends =
         let are_spans : AreSpansOf view from cores spans = (λ i c here.
-            let next : suc i ≡ i + 1 = omega arith in
-            let told : option_map (λ (s : Span). s.to) (slice_get spans i) ≡ Some (view c.area.device).calls =
-            sym (slice_get-map (λ (s : Span). s.to) spans i) ∙ ap (λ (ms : List ℕ). slice_get ms (suc i)) (ends ∙ ap (map (λ (x : DiskView). x.calls)) same)
-            ∙ slice_get-map (λ (x : DiskView). x.calls) (map (λ (c : CoreState D). view c.area.device) cores) i ∙ ap (option_map (λ (x : DiskView). x.calls)) (slice_get-map (λ (c : CoreState D). view c.area.device) cores i ∙ ap (option_map (λ (c : CoreState D). view c.area.device)) here) in
-            one_span i c (slice_get spans i) here (subst (λ (k : ℕ). slice_get (spans_in round) k ≡ slice_get spans i) next (ap (λ (ss : List Span). slice_get ss (suc i)) is)) told) in
+        let next : suc i ≡ i + 1 = omega arith in
+        let told : option_map (λ (s : Span). s.to) (slice_get spans i) ≡ Some (view c.area.device).calls =
+        sym (slice_get-map (λ (s : Span). s.to) spans i) ∙ ap (λ (ms : List ℕ). slice_get ms (suc i)) (ends ∙ ap (map (λ (x : DiskView). x.calls)) same)
+        ∙ slice_get-map (λ (x : DiskView). x.calls) (map (λ (c : CoreState D). view c.area.device) cores) i ∙ ap (option_map (λ (x : DiskView). x.calls)) (slice_get-map (λ (c : CoreState D). view c.area.device) cores i ∙ ap (option_map (λ (c : CoreState D). view c.area.device)) here) in
+        one_span i c (slice_get spans i) here (subst (λ (k : ℕ). slice_get (spans_in round) k ≡ slice_get spans i) next (ap (λ (ss : List Span). slice_get ss (suc i)) is)) told) in
         subst (λ (ds : List DiskView). CrashesRecover ds (span ∷ spans) cache.sizes tails cache.start tree calls replies history) (sym same)
         (law view cache from tails cores history sealed (view d) span spans tree calls replies service logged are_spans shows served (holds span (ap (λ (ss : List Span). slice_get ss 0) is)))
 
@@ -245,7 +245,7 @@ module _ {D : Type 0} (view : D → DiskView) (super : Super) (start : State) (t
     (read : List ℕ) (input : ReadsInput before.left after.left read) (schedule : IsSchedule super.sizes.cores read lines) (built : AreBuilt lines) (quiet : after.input_faults ≡ before.input_faults)
     (spans : List Span) (round : Rounds spans)
     (recover : (history : List Operation) (sealed : Journals) (calls : List Call) (replies : List Reply) → IsService new.cache new.cores history → AreLogged view (past_of view areas).from (past_of view areas).tails new.cores history sealed → IsServed super.sizes history calls replies
-        → (disks : List DiskView) → Stand disks → CrashesRecover disks spans super.sizes super.tails start tree calls replies history)
+    → (disks : List DiskView) → Stand disks → CrashesRecover disks spans super.sizes super.tails start tree calls replies history)
     (fails : (core : ℕ) → core < length old.cores → ((a b : CoreState D) → slice_get old.cores core ≡ Some a → slice_get new.cores core ≡ Some b → Rose (view a.area.device).faults (view b.area.device).faults) → Fails core) where
   plays_of : (failed : Option ℕ) (rest : List ℕ) → PlaysRound view old new (past_of view areas) lines before.held after.held failed rest → Plays super start tree Stand Rounds before after failed rest
   plays_of failed rest played =

@@ -14,8 +14,8 @@ mod tool;
 
 pub use phase::{Phase, PhaseKind};
 pub use status::{Fault, ImageFault, Status};
-pub use zj_dev::Span;
 pub use tool::zj_tool;
+pub use zj_dev::Span;
 
 #[cfg(test)]
 mod tests;

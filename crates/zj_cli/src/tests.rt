@@ -146,7 +146,7 @@ fn spells_faults(rt: HostRuntime) -> Result<(), Fail> {
         (Fault::Output, 7, "output"),
     ];
     for (fault, code, want) in table {
-        let status = Status::new(Some(fault));
+        let status = Status::new(Some(fault), Vec::new(rt.alloc()));
         assert_eq!(rt; status.code(), code);
         assert_eq!(rt; fault.to_string(rt.alloc())?.as_str(), want);
     }

@@ -35,14 +35,17 @@ fn plays_scripts(rt: HostRuntime) -> Result<(), Fail> {
 #[test]
 fn tells_where_a_script_is_refused(rt: HostRuntime) -> Result<(), Fail> {
     let alloc = rt.alloc();
-    let table: [(&str, u32, u32, u32); 10] = [
+    let table: [(&str, u32, u32, u32); 13] = [
         ("0 mkdir a\n", 3, 1, 9),
         ("1 list /\n", 1, 1, 1),
         ("\n# a comment\n0 list", 3, 3, 7),
         ("0 list / /\n", 2, 1, 10),
         ("0 read /f 01 1\n", 4, 1, 11),
         ("0 write /f 0 %61\n", 5, 1, 14),
-        ("0 commit\n0 list\n", 2, 1, 3),
+        ("0 commit\n0 list\n", 3, 2, 7),
+        ("0 look\n0 list\n", 2, 1, 3),
+        ("0 fsync /\n0 list\n", 2, 1, 3),
+        ("0 list /\nsync\n", 2, 2, 1),
         ("0 list\n0 commit\n", 3, 1, 7),
         ("0 commit now\n", 2, 1, 10),
         ("0 list /\ncheckpoint\n", 2, 2, 1),
