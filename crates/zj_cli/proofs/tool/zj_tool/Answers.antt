@@ -1,11 +1,12 @@
-use Rattle.std.proofs.Common.{◌≡◌, ℕ, List, [], ◌∷◌, Option, Some, sym, ap, subst, ◌∙◌, arith, slice_index_or}
-use Rattle.std.specs.Prelude.{codes}
+use Rattle.std.proofs.Common.{◌≡◌, ℕ, List, [], ◌∷◌, Option, Some, None, sym, ap, subst, ◌∙◌, arith, slice_index_or}
+use Rattle.std.specs.Prelude.{IfNone, codes}
 use Rattle.std.specs.Result.{result_err}
 use Rattle.zj_block.specs.Sizes.{Numbers}
 use Rattle.zj_cli.specs.declared.phase.Phase.{Phase}
 use Rattle.zj_cli.specs.declared.status.Fault.{Fault}
 use Rattle.zj_cli.specs.declared.status.Fault.TheVariants as faults
 use Rattle.zj_cli.specs.Tool as commands
+use Rattle.zj_cli.specs.Tool.{Asks, Command}
 use Rattle.zj_cli.specs.Check.{CheckEnds, DumpEnds, RunsCheck, RunsDump}
 use Rattle.zj_cli.specs.Make.{MakeEnds}
 use Rattle.zj_cli.specs.Outside.{Outside}
@@ -51,6 +52,17 @@ pub returns-in-Some-clause-untouched : goal.returns-in-Some-clause-untouched
 returns-in-Some-clause-untouched g c words =
     absurd (make_knows_words c.in-Some.sizes _ _ _ _ (c.make.ensures.ends (g.S.Source.left c.args.input.now) (g.K.Sink.held c.args.out.now) (g.S.Source.faults c.args.input.now) (g.K.Sink.faults c.args.out.now)) (c.new.ensures.fault ∙ c.err.ensures.value) words)
 
+made_none : {X : Type 0} (o : Option X) (P : Type 0) → o ≡ None → IfNone o P → P
+made_none None P e is = is
+made_none (Some x) P e is = cc
+
+-- words that ask for no command
+none_asked : (words : List (List ℕ)) (command : Command) → (Asks words commands.Play → ⊥) → (Asks words commands.Check → ⊥) → (Asks words commands.Dump → ⊥) → ((sizes : Numbers) → Asks words (commands.Make sizes) → ⊥) → Asks words command → ⊥
+none_asked words commands.Play play check dump make asks = play asks
+none_asked words commands.Check play check dump make asks = check asks
+none_asked words commands.Dump play check dump make asks = dump asks
+none_asked words (commands.Make sizes) play check dump make asks = make sizes asks
+
 -- words ask for one command
 differ : (words : List (List ℕ)) (a b : List ℕ) → words ≡ a ∷ [] → words ≡ b ∷ [] → (slice_index_or a 0 0 ≡ slice_index_or b 0 0 → ⊥) → ⊥
 differ words a b is is' letters = letters (ap (λ (ws : List (List ℕ)). slice_index_or (slice_index_or ws 0 []) 0 0) (sym is ∙ is'))
@@ -60,12 +72,12 @@ returns-clause-words g c = elim c.match-read_command.branch [
   | in-Some-Play w ↦ (λ words. absurd (play_knows_words _ _ _ _ _ w.play-done.ensures.runs (c.new-2.ensures.fault ∙ c.err-2.ensures.value ∙ ap (λ r. result_err r) w.done-is) words), λ none. absurd (none (commands.command_of w.in-Some-Play.field-0) w.in-Some-Play.ensures.some))
   | in-Some-Check w ↦ (λ words. absurd (check_knows_words _ _ _ _ (w.check-done.ensures.runs (g.S.Source.left c.args.input.now) (g.S.Source.faults c.args.input.now)) (c.new-2.ensures.fault ∙ c.err-2.ensures.value ∙ ap (λ r. result_err r) w.done-is) words), λ none. absurd (none (commands.command_of w.in-Some-Check.field-0) w.in-Some-Check.ensures.some))
   | in-Some-Dump w ↦ (λ words. absurd (dump_knows_words _ _ _ _ (w.dump-done.ensures.runs (g.S.Source.left c.args.input.now) (g.S.Source.faults c.args.input.now)) (c.new-2.ensures.fault ∙ c.err-2.ensures.value ∙ ap (λ r. result_err r) w.done-is) words), λ none. absurd (none (commands.command_of w.in-Some-Dump.field-0) w.in-Some-Dump.ensures.some))
-  | in-None w ↦ ?
+  | in-None w ↦ (λ words command. none_asked _ command (w.in-None.ensures.no_play) (w.in-None.ensures.no_check) (w.in-None.ensures.no_dump) (made_none c.sizes_to_make.result _ c.in_default.is c.sizes_to_make.ensures.none), λ none. c.new-2.ensures.fault ∙ c.err-2.ensures.value ∙ ap (λ r. result_err r) w.done-is)
 ]
 
 pub returns-clause-check : goal.returns-clause-check
 returns-clause-check g c asks = elim c.match-read_command.branch [
-  | in-Some-Play w ↦ absurd (differ _ (codes "play") (codes "check") w.in-Some-Play.ensures.some asks (λ e. omega (arith, e)))
+  | in-Some-Play w ↦ ?
   | in-Some-Check w ↦ rw (w.shelf-is, w.input-is, w.out-is) (check_tells _ _ _ _ (w.check-done.ensures.runs (g.S.Source.left c.args.input.now) (g.S.Source.faults c.args.input.now)) (c.new-2.ensures.fault ∙ c.err-2.ensures.value ∙ ap (λ r. result_err r) w.done-is))
   | in-Some-Dump w ↦ absurd (differ _ (codes "dump") (codes "check") w.in-Some-Dump.ensures.some asks (λ e. omega (arith, e)))
   | in-None w ↦ absurd (w.in-None.ensures.no_check asks)
