@@ -1,5 +1,5 @@
 -- The moments of devices, told one after the other.
-use Rattle.std.proofs.Common.{◌≡◌, ◌⊎◌, zero, suc, ◌≢◌, ◌∙◌, ◌^◌, true, inl, inr, ℕ, ◌+◌, ◌<◌, ◌≤◌, List, [], ◌∷◌, length, map, replicate, take, set, refl, sym, ap, subst, arith}
+use Rattle.std.proofs.Common.{◌≡◌, ◌⊎◌, zero, suc, ◌≢◌, ◌∙◌, ◌^◌, true, inl, inr, ℕ, ◌+◌, ◌<◌, ◌≤◌, List, [], ◌∷◌, length, map, replicate, take, set, refl, sym, ap, subst, arith, ◌-◌}
 use Rattle.std.specs.Prelude.{Option, Some, None, IsSomeAnd, MatchOption, option_map, slice_get, slice_index}
 use Rattle.std.proofs.lemmas.Bool.{cases_eq, cases_lt}
 use Rattle.std.proofs.lemmas.List.{get_or-set_other, length-set, length-map, take-map}
@@ -14,7 +14,7 @@ use Rattle.zj_mount.proofs.ScanLemmas.{set_there, set_elsewhere}
 use Rattle.zj_dev.specs.declared.span.Span.{Span}
 use Rattle.zj_cli.specs.declared.phase.Phase.{Phase}
 use Rattle.zj_cli.specs.declared.phase.PhaseKind.TheVariants as kinds
-use Rattle.zj_cli.specs.Phases.{AreMoments, AreOf, DevicesGoOn, EndsWith, ArePhases, IsBetween, IsHomeQuietIn, IsPhaseOf, IsStillIn}
+use Rattle.zj_cli.specs.Phases.{AreMoments, AreOf, ArePhases, DevicesGoOn, EndsWith, HasRound, IsBetween, IsHomeQuietIn, IsPhaseOf, IsStillIn, spans_in}
 use Rattle.zj_cli.proofs.SpellLemmas.{none_there}
 
 -- the moments of home and of the first journals, so many
@@ -176,15 +176,17 @@ module _ (phase : Phase) (from to : List ℕ) (between : IsBetween from to phase
       sym (take-map (λ (s : Span). s.to) phase.devices phase.spans) ∙ ap (take phase.devices) between.tos ∙ told_calls view d areas to last phase.devices devices
       ∙ sym (ap (λ (cs : List ℕ). (view d).calls ∷ cs) (map-map (λ (x : DiskView). x.calls) (λ (a : AreaView D). view a.device) areas)) ∙ sym (ap (map (λ (x : DiskView). x.calls)) are)
 
+  pub begins_with : {D : Type 0} (view : D → DiskView) (d : D) (areas : List (AreaView D)) → phase.devices ≡ length areas + 1 → AreMoments view d (map (λ (a : AreaView D). a.device) areas) from
+      → map (λ (s : Span). s.from) (spans_in phase) ≡ map (λ (x : DiskView). x.calls) (view d ∷ map (λ (a : AreaView D). view a.device) areas)
+  begins_with {D = D} view d areas devices first =
+      sym (take-map (λ (s : Span). s.from) phase.devices phase.spans) ∙ ap (take phase.devices) between.froms ∙ told_calls view d areas from first phase.devices devices
+      ∙ sym (ap (λ (cs : List ℕ). (view d).calls ∷ cs) (map-map (λ (x : DiskView). x.calls) (λ (a : AreaView D). view a.device) areas))
+
 -- ---- nothing is written in a mount
 
--- Once the count of calls stands still at its type's end, a moment no longer tells one call from another.
-stands_still : (a b c : DiskView) (image : List ℕ) → Settles a b → Continues b c → a.calls < b.calls → b.calls ≡ 18446744073709551615 → c.may_leave b.calls image ≡ true → c.may_leave a.calls image ≡ true
-stands_still a b c image settles goes_on less end may = ?
-
 -- what a crash leaves of a device in the span in which it was settled, it might leave as that began
-still : (a b c : DiskView) (moment : ℕ) (image : List ℕ) → Settles a b → Continues b c → b.calls < 2 ^ 64 → a.calls ≤ moment → moment ≤ b.calls → c.may_leave moment image ≡ true → c.may_leave a.calls image ≡ true
-still a b c moment image settles goes_on counted from to may = by (cases_lt a.calls b.calls)
+still : (a b c : DiskView) (moment : ℕ) (image : List ℕ) → Settles a b → Continues b c → b.calls < 2 ^ 64 → a.calls ≤ moment → moment ≤ b.calls → moment < 2 ^ 64 - 1 → c.may_leave moment image ≡ true → c.may_leave a.calls image ≡ true
+still a b c moment image settles goes_on counted from to soon may = by (cases_lt a.calls b.calls)
   where
     -- the image might be left as the span began, and still might
     began : a.calls < b.calls → b.may_leave moment image ≡ true → c.may_leave a.calls image ≡ true
@@ -200,7 +202,7 @@ still a b c moment image settles goes_on counted from to may = by (cases_lt a.ca
       where
         ends : a.calls < b.calls → moment ≡ b.calls → c.may_leave b.calls image ≡ true → (b.calls < 18446744073709551615) ⊎ (18446744073709551615 ≤ b.calls) → c.may_leave a.calls image ≡ true
         ends less here may_here (inl early) = began less (subst (λ (m : ℕ). b.may_leave m image ≡ true) (sym here) (sym (goes_on.here image (omega (arith, early))) ∙ may_here))
-        ends less here may_here (inr late) = stands_still a b c image settles goes_on less (omega (arith, late, counted)) may_here
+        ends less here may_here (inr late) = absurd (omega (arith, late, here, soon))
 
     by : (a.calls < b.calls) ⊎ (b.calls ≤ a.calls) → c.may_leave a.calls image ≡ true
     by (inl less) = last less (cases_lt moment b.calls)
@@ -210,15 +212,15 @@ module _ {D : Type 0} (view : D → DiskView) (phase : Phase) (from to : List �
     (first : AreMoments view d0 (map (λ (a : AreaView D). a.device) areas0) from) (last : AreMoments view d1 (map (λ (a : AreaView D). a.device) areas1) to)
     (home : Settles (view d0) (view d1)) (home_on : Continues (view d1) (view d2)) (settled : AreSettled view areas0 areas1) (goes_on : DevicesGoOn view areas1 areas2)
     (counted : (place moment : ℕ) → slice_get to place ≡ Some moment → moment < 2 ^ 64) where
-  still_home : (moment : ℕ) (span : Span) (image : List ℕ) → slice_get phase.spans 0 ≡ Some span → LeavesIn (view d2) span moment image → (view d2).may_leave span.from image ≡ true
-  still_home moment span image here leaves =
+  still_home : (moment : ℕ) (span : Span) (image : List ℕ) → slice_get phase.spans 0 ≡ Some span → LeavesIn (view d2) span moment image → moment < 2 ^ 64 - 1 → (view d2).may_leave span.from image ≡ true
+  still_home moment span image here leaves soon =
       let begins : span.from ≡ (view d0).calls = from_at phase from to between 0 span (view d0).calls here first.home_is in
       let ends : span.to ≡ (view d1).calls = to_at phase from to between 0 span (view d1).calls here last.home_is in
       subst (λ (m : ℕ). (view d2).may_leave m image ≡ true) (sym begins)
-      (still (view d0) (view d1) (view d2) moment image home home_on (counted 0 (view d1).calls last.home_is) (subst (λ (m : ℕ). m ≤ moment) begins leaves.not_before) (subst (λ (m : ℕ). moment ≤ m) ends leaves.not_after) leaves.left)
+      (still (view d0) (view d1) (view d2) moment image home home_on (counted 0 (view d1).calls last.home_is) (subst (λ (m : ℕ). m ≤ moment) begins leaves.not_before) (subst (λ (m : ℕ). moment ≤ m) ends leaves.not_after) soon leaves.left)
 
-  still_journal : (core moment : ℕ) (span : Span) (image : List ℕ) (c : AreaView D) → slice_get areas2 core ≡ Some c → slice_get phase.spans (core + 1) ≡ Some span → LeavesIn (view c.device) span moment image → (view c.device).may_leave span.from image ≡ true
-  still_journal core moment span image c there here leaves = by (slice_get areas0 core) (slice_get areas1 core) refl refl (settled core) (goes_on core)
+  still_journal : (core moment : ℕ) (span : Span) (image : List ℕ) (c : AreaView D) → slice_get areas2 core ≡ Some c → slice_get phase.spans (core + 1) ≡ Some span → LeavesIn (view c.device) span moment image → moment < 2 ^ 64 - 1 → (view c.device).may_leave span.from image ≡ true
+  still_journal core moment span image c there here leaves soon = by (slice_get areas0 core) (slice_get areas1 core) refl refl (settled core) (goes_on core)
     where
       by : (o o' : Option (AreaView D)) → slice_get areas0 core ≡ o → slice_get areas1 core ≡ o' → MatchOption o (o' ≡ None) (λ a. IsSomeAnd o' (λ b. Settles (view a.device) (view b.device)))
           → MatchOption o' (slice_get areas2 core ≡ None) (λ a. IsSomeAnd (slice_get areas2 core) (λ b. Continues (view a.device) (view b.device))) → (view c.device).may_leave span.from image ≡ true
@@ -233,21 +235,21 @@ module _ {D : Type 0} (view : D → DiskView) (phase : Phase) (from to : List �
           let ends : span.to ≡ (view b.device).calls = to_at phase from to between (core + 1) span (view b.device).calls here last_is in
           subst (λ (m : ℕ). (view c.device).may_leave m image ≡ true) (sym begins)
           (still (view a.device) (view b.device) (view c.device) moment image settles on_c (counted (core + 1) (view b.device).calls last_is) (subst (λ (m : ℕ). m ≤ moment) begins leaves.not_before)
-          (subst (λ (m : ℕ). moment ≤ m) ends leaves.not_after) leaves.left)
+          (subst (λ (m : ℕ). moment ≤ m) ends leaves.not_after) soon leaves.left)
 
   pub still_in : (disks : List DiskView) → AreOf view d2 areas2 disks → IsStillIn phase disks
-  still_in disks are place moment disk span image there here leaves = by place (sym (ap (λ (ds : List DiskView). slice_get ds place) are) ∙ there) (of_take phase.devices phase.spans place span here)
+  still_in disks are place moment disk span image there here leaves soon = by place (sym (ap (λ (ds : List DiskView). slice_get ds place) are) ∙ there) (of_take phase.devices phase.spans place span here)
     where
       at : (core : ℕ) (o : Option (AreaView D)) → slice_get areas2 core ≡ o → option_map (λ (a : AreaView D). view a.device) o ≡ Some disk → slice_get phase.spans (core + 1) ≡ Some span → disk.may_leave span.from image ≡ true
       at core None e is span_here = cc
       at core (Some c) e is span_here =
           let same : view c.device ≡ disk = cc in
-          subst (λ (x : DiskView). x.may_leave span.from image ≡ true) same (still_journal core moment span image c e span_here (subst (λ (x : DiskView). LeavesIn x span moment image) (sym same) leaves))
+          subst (λ (x : DiskView). x.may_leave span.from image ≡ true) same (still_journal core moment span image c e span_here (subst (λ (x : DiskView). LeavesIn x span moment image) (sym same) leaves) soon)
 
       by : (k : ℕ) → slice_get (view d2 ∷ map (λ (a : AreaView D). view a.device) areas2) k ≡ Some disk → slice_get phase.spans k ≡ Some span → disk.may_leave span.from image ≡ true
       by zero is span_here =
           let same : view d2 ≡ disk = (let e : Some (view d2) ≡ Some disk = is in cc) in
-          subst (λ (x : DiskView). x.may_leave span.from image ≡ true) same (still_home moment span image span_here (subst (λ (x : DiskView). LeavesIn x span moment image) (sym same) leaves))
+          subst (λ (x : DiskView). x.may_leave span.from image ≡ true) same (still_home moment span image span_here (subst (λ (x : DiskView). LeavesIn x span moment image) (sym same) leaves) soon)
       by (suc core) is span_here =
           let next : suc core ≡ core + 1 = omega arith in
           at core (slice_get areas2 core) refl (sym (slice_get-map (λ (a : AreaView D). view a.device) areas2 core) ∙ is) (subst (λ (k : ℕ). slice_get phase.spans k ≡ Some span) next span_here)
@@ -302,3 +304,17 @@ module _ {D : Type 0} (view : D → DiskView) (cores : ℕ) (phases : List Phase
       ends_with round ready ended behind view d1 areas2 (omega (arith, round_devices, many, many2)) final disks are,
     ),
   )
+
+-- ---- which the phases are
+
+pub first_is : (items : List Phase) (p first : Phase) (rest later : List Phase) → items ≡ p ∷ rest → items ≡ first ∷ later → p ≡ first
+first_is items p first rest later is told = let same : p ∷ rest ≡ first ∷ later = sym is ∙ told in cc
+
+pub no_round : (items : List Phase) (p : Phase) (spans : List Span) → items ≡ p ∷ [] → HasRound items spans → ⊥
+no_round items p spans is has = absurd (omega (arith, ap length is, ap length has.2))
+
+pub round_is : (items : List Phase) (p q : Phase) (spans : List Span) → items ≡ p ∷ q ∷ [] → HasRound items spans → spans_in q ≡ spans
+round_is items p q spans is has =
+    let same : p ∷ q ∷ [] ≡ has.0 ∷ has.1 ∷ [] = sym is ∙ has.2 in
+    let second : q ≡ has.1 = cc in
+    ap spans_in second ∙ sym has.3

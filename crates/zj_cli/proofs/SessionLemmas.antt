@@ -28,6 +28,7 @@ use Rattle.zj_layout.specs.Shows.{Shows}
 use Rattle.zj_mount.specs.Opening.{AllOpened, IsOpened}
 use Rattle.zj_mount.specs.Scanning.{AreReady, IsNowReady}
 use Rattle.zj_mount.specs.Settling.{AreSettled, RestEmpty, Settles}
+use Rattle.zj_script.specs.declared.answer.Answer.{Answer}
 use Rattle.zj_script.specs.declared.line.Line.{Line}
 use Rattle.zj_script.specs.Script.{IsSchedule}
 use Rattle.zj_turns.specs.Passes.{CacheParameters}
@@ -36,7 +37,7 @@ use Rattle.zj_session.specs.Answering.{area_onward}
 use Rattle.zj_session.specs.Crashes.{AreLogged, CrashesRecover}
 use Rattle.zj_session.specs.Laws.{AreSpansOf, FitIsRun, RoundRecovers}
 use Rattle.zj_session.specs.Played.{Played}
-use Rattle.zj_session.specs.Playing.{JournalsGoOn, ServiceState, journals_of}
+use Rattle.zj_session.specs.Playing.{JournalsGoOn, PlaysLines, ServiceState, journals_of}
 use Rattle.zj_session.specs.Service.{IsService}
 use Rattle.zj_session.specs.Starting.{RestWithNone, past_of}
 use Rattle.zj_cli.specs.declared.phase.Phase.{Phase}
@@ -45,7 +46,7 @@ use Rattle.zj_cli.specs.declared.status.Fault.TheVariants as faults
 use Rattle.zj_cli.specs.Asked.{AreBuilt}
 use Rattle.zj_cli.specs.Outside.{IsUnwritten, Outside}
 use Rattle.zj_cli.specs.Phases.{AreMoments, AreOf, DevicesGoOn, EndsWith, IsBetween, JournalFails, spans_in}
-use Rattle.zj_cli.specs.Play.{IsInputCause, Plays, PlaysRound, ReadsInput, RoundEnds, ScriptEnds}
+use Rattle.zj_cli.specs.Play.{IsInputCause, LeavesCuts, Plays, PlaysRound, ReadsInput, RoundEnds, ScriptEnds}
 use Rattle.zj_cli.proofs.PhaseLemmas.{at_core, ends_with, from_at, of_take, same_lists, to_at}
 use Rattle.zj_cli.proofs.SpellLemmas.{none_there}
 
@@ -79,15 +80,11 @@ module _ {D : Type 0} (view : D → DiskView) (super : Super) (old new : List (A
           let now : IsNowReady w.0 b = rw (w.2, e) at (ready core (omega (arith, slice_get_within new core b e, many))) in
           ap (λ (x : AreaView D). Some x.tail) now ∙ ap (λ (x : AreaView D). Some x.tail) w.4 ∙ sym w.3
 
-  -- What a mount says of a journal that holds no record: it ends where it begins.
-  end_is_tail : RestEmpty view old new → (core : ℕ) (b : AreaView D) → slice_get new core ≡ Some b → b.end ≡ b.tail
-  end_is_tail rest core b here = ?
-
   pub rest_with_none : RestEmpty view old new → RestWithNone view new
   rest_with_none rest core b here =
       let w = was core b here in
       let unread : w.0.ready ≡ false = ap (λ (x : AreaView D). x.ready) w.4 in
-      (rest core w.0 b w.2 here (λ known. dead w.0.ready unread known.0), end_is_tail rest core b here)
+      rest core w.0 b w.2 here (λ known. dead w.0.ready unread known.0)
     where
       dead : (r : _) → r ≡ false → r ≡ true → ⊥
       dead r no_read is = cc
@@ -237,6 +234,25 @@ session_recovers {D = D} law view super start tree cache cores areas areas' base
     rw (sized, held, tails) at
     (round_recovered law view cache cores areas (map (λ (a : AreaView D). a.tail) areas) d round ready ended tree history sealed calls replies between first last many devices settled (rw (held, read) holds) service logged (rw (sized, held) shows) (rw sized served) disks
     (subst (λ (all : List (AreaView D)). AreOf view d all disks) same are))
+
+-- ---- what a round leaves, however it ends
+
+module _ {D : Type 0} (view : D → DiskView) (super : Super) (start : State) (tree : FileTree) (old new : ServiceState D) (areas : List (AreaView D)) (lines : List Line) (Stand : List DiskView → Type 0)
+    (sized : old.cache.sizes ≡ super.sizes) (held : old.cache.start ≡ start) (tails : map (λ (a : AreaView D). a.tail) areas ≡ super.tails) (shows : Shows super.sizes start tree) (fits : FitIsRun) (spans : List Span)
+    (recover : (history : List Operation) (sealed : Journals) (calls : List Call) (replies : List Reply) → IsService new.cache new.cores history → AreLogged view (past_of view areas).from (past_of view areas).tails new.cores history sealed → IsServed super.sizes history calls replies
+        → (disks : List DiskView) → Stand disks → CrashesRecover disks spans super.sizes super.tails start tree calls replies history) where
+  pub cuts_of : (rest : List Line) (answers : List Answer) → PlaysLines view old new (past_of view areas) lines rest answers → LeavesCuts super start tree Stand spans
+  cuts_of rest answers plays =
+      let fit = rw (sized, held) at plays.fit in
+      let run = fits super.sizes start tree plays.played plays.later shows fit in
+      record {
+        played = plays.played;
+        history = plays.later;
+        fit = fit;
+        fits_log = rw (sized, held, tails) at plays.fits_log;
+        run = run.0;
+        recovers = recover plays.later plays.sealed run.0.calls run.0.replies plays.service plays.logged run.1;
+      }
 
 -- ---- how the script ends
 

@@ -1,5 +1,5 @@
 -- What a status tells of the phases of a call: the moments of each device in each of them.
-use Rattle.std.specs.Prelude.{◌≡◌, ℕ, ◌+◌, ◌<◌, true, List, [], ◌∷◌, length, map, take, Some, None, IsSomeAnd, MatchOption, slice_get, slice_index}
+use Rattle.std.specs.Prelude.{◌≡◌, ◌-◌, ◌^◌, ◌≤◌, ⊤, ℕ, ◌+◌, ◌<◌, true, List, [], ◌∷◌, length, map, take, Some, None, IsSomeAnd, MatchOption, slice_get, slice_index}
 use Rattle.zj_dev.specs.Crash.{IsQuietIn, LeavesIn}
 use Rattle.zj_dev.specs.Disk.{Continues, DiskView}
 use Rattle.zj_dev.specs.Fault.{Rose}
@@ -38,9 +38,10 @@ GoesOnFrom earlier later = map (λ s. s.from) later.spans ≡ map (λ s. s.to) e
 abbrev pub EndsWith : Phase → List DiskView → Type 0
 EndsWith phase disks = map (λ s. s.to) (spans_in phase) ≡ map (λ d. d.calls) disks
 
--- Nothing is written in a mount: what a crash leaves of a device, at a moment of it, it might leave as the mount began.
+-- Nothing is written in a mount: what a crash leaves of a device, at a moment of it, it might leave as the mount began. At the last moment that
+-- a count of calls can tell the count stands still, so nothing is said of that one.
 abbrev pub IsStillIn : Phase → List DiskView → Type 0
-IsStillIn phase disks = (place moment : ℕ) (disk : DiskView) (span : Span) (image : List ℕ) → slice_get disks place ≡ Some disk → slice_get (spans_in phase) place ≡ Some span → LeavesIn disk span moment image → disk.may_leave span.from image ≡ true
+IsStillIn phase disks = (place moment : ℕ) (disk : DiskView) (span : Span) (image : List ℕ) → slice_get disks place ≡ Some disk → slice_get (spans_in phase) place ≡ Some span → LeavesIn disk span moment image → moment < 2 ^ 64 - 1 → disk.may_leave span.from image ≡ true
 
 -- Home is not written in a round.
 abbrev pub IsHomeQuietIn : Phase → List DiskView → Type 0
@@ -53,6 +54,16 @@ ArePhases cores Stand (mount ∷ []) = (mount.kind ≡ kinds.Mount) × IsPhaseOf
 ArePhases cores Stand (mount ∷ round ∷ []) = (mount.kind ≡ kinds.Mount) × (round.kind ≡ kinds.Round) × IsPhaseOf cores mount × IsPhaseOf cores round × GoesOnFrom mount round
     × ((disks : List DiskView) → Stand disks → IsStillIn mount disks × IsHomeQuietIn round disks × EndsWith round disks)
 ArePhases cores Stand phases = ⊥
+
+-- From the moment at which these disks stood on the shelf, up to the first moment of a phase, nothing was written.
+abbrev pub BeginsAfter : Phase → List DiskView → List DiskView → Type 0
+BeginsAfter phase stood disks = (place moment : ℕ) (old disk : DiskView) (span : Span) (image : List ℕ) → slice_get stood place ≡ Some old → slice_get disks place ≡ Some disk → slice_get (spans_in phase) place ≡ Some span
+    → old.calls ≤ moment → moment < span.from → disk.may_leave moment image ≡ disk.may_leave old.calls image
+
+-- The first phase begins so, as an image of so many cores was opened.
+abbrev pub PhasesBegin : ShelfView → ShelfView → List Phase → Type 0
+PhasesBegin before after [] = ⊤
+PhasesBegin before after (first ∷ later) = (cores : ℕ) (stood disks : List DiskView) → first.devices ≡ cores + 1 → AreUnder cores before stood → AreUnder cores after disks → BeginsAfter first stood disks
 
 -- These are the spans of the round.
 abbrev pub HasRound : List Phase → List Span → Type 0

@@ -22,7 +22,7 @@ use Rattle.zj_session.specs.Logging.{FitsLog, fails_in, standing_at}
 use Rattle.zj_session.specs.Played.{Fit, IsRun, Played}
 use Rattle.zj_session.specs.Playing.{Past, PlaysLines, ServiceState, answer_of}
 use Rattle.zj_mount.specs.Image.{HasHome, HasJournals, RoseUnder}
-use Rattle.zj_mount.specs.Set.{AllBackAs, journal_name}
+use Rattle.zj_mount.specs.Set.{AllBack, AllBackAs, journal_name}
 use Rattle.zj_mount.specs.Settling.{Settles}
 use Rattle.zj_cli.specs.declared.phase.Phase.{Phase}
 use Rattle.zj_cli.specs.declared.status.Fault.{Fault}
@@ -31,7 +31,7 @@ use Rattle.zj_cli.specs.Asked.{AreBuilt, IsRefusedAt}
 use Rattle.zj_cli.specs.Check.{IsDeviceCause}
 use Rattle.zj_cli.specs.Mount.{IsTreeCause, Mounts}
 use Rattle.zj_cli.specs.Outside.{IsUnwritten, Outside}
-use Rattle.zj_cli.specs.Phases.{ArePhases, AreUnder, HasRound}
+use Rattle.zj_cli.specs.Phases.{ArePhases, AreUnder, HasRound, PhasesBegin}
 
 -- A source gave these bytes, one more at most than a schedule may have.
 pub record Reads (old new : Option (List ℕ)) (read : List ℕ) : Type 0 where
@@ -131,9 +131,31 @@ PlayEnds before after phases (Some (faults.Device device)) = (IsMountDeviceCause
 PlayEnds before after phases (Some faults.Memory) = StopsEarly before after
 PlayEnds before after phases (Some fault) = PlaysFrom before after phases (Some fault)
 
--- What `play` does: however it ends, each device stands again where it stood. Home was only read and synced, and journals went on.
+-- Where lines were begun: some first ones of a schedule were played; they, their answers and one history from the image's blocks on fit; and
+-- each crash within the round recovers to a cut of that history.
+pub record LeavesCuts (super : Super) (start : State) (tree : FileTree) (Stand : List DiskView → Type 0) (spans : List Span) : Type 0 where
+  pub played : List Played
+  pub history : List Operation
+  pub fit : Fit super.sizes start [] played history
+  pub fits_log : FitsLog super.sizes super.tails start [] (standing_at super.tails) played history
+  pub run : IsRun super.sizes tree played
+  pub recovers : (disks : List DiskView) → Stand disks → CrashesRecover disks spans super.sizes super.tails start tree run.calls run.replies history
+
+-- What a round leaves of an image that stood on the shelf, whichever fault it ended with, also where memory ran out.
+abbrev pub LeavesImage : Outside → Outside → List Span → Type 0
+LeavesImage before after spans = (super : Super) × (start : State) × (tree : FileTree) × Mounts before.names super start tree × LeavesCuts super start tree (AreUnder super.sizes.cores after.names) spans
+
+-- There is no phase, and each device was only read; or an image was opened, and these are its phases.
+abbrev pub PhasesTold : Outside → Outside → List Phase → Type 0
+PhasesTold before after phases = ((phases ≡ []) × AllBack before.names after.names) ⊎ ((super : Super) × HasHome before.names super × ArePhases super.sizes.cores (AreUnder super.sizes.cores after.names) phases)
+
+-- What `play` does: however it ends, each device stands again where it stood. Home was only read and synced, and journals went on. The
+-- phases begin as the devices were opened; and where there was a round, each crash within it recovers to a cut, whichever fault it ended with.
 pub record RunsPlay (before after : Outside) (phases : List Phase) (fault : Option Fault) : Type 0 where
   pub back : AllBackAs Settles Continues before.names after.names
+  pub phases_are : PhasesTold before after phases
+  pub begins : PhasesBegin before.names after.names phases
+  pub cuts : (spans : List Span) → HasRound phases spans → LeavesImage before after spans
   pub ends : PlayEnds before after phases fault
 
 -- ---- on the way

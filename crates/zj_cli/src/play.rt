@@ -1,6 +1,6 @@
 //! `play`: the lines of a schedule in order, each on its core.
 
-ghost use Rattle.std.specs.Prelude.{◌≡◌, ◌⊎◌, ◌<◌, ◌≤◌, ℕ, List, [], IfErr, IfOk, IsErr, OnOk, length, slice_get};
+ghost use Rattle.std.specs.Prelude.{◌≡◌, ◌⊎◌, ◌<◌, ◌≤◌, ℕ, List, [], IfErr, IfOk, IsErr, OnOk, length, slice_get, ◌∷◌, map};
 ghost use Rattle.std.specs.List.{All, flat_map};
 ghost use Rattle.std.specs.Option.{option_map};
 ghost use Rattle.std.specs.Result.{result_err};
@@ -18,11 +18,15 @@ ghost use Rattle.zj_mount.specs.Scanning.{AreReady};
 ghost use Rattle.zj_mount.specs.Settling.{AreSettled, RestEmpty, Settles};
 ghost use Rattle.zj_script.specs.Script.{IsSchedule};
 ghost use Rattle.zj_turns.specs.Passes.{left_of};
-ghost use Rattle.zj_session.specs.Playing.{HasPast, IsPlayable, JournalsGoOn, Past, journals_of};
+ghost use Rattle.zj_session.specs.Playing.{HasPast, IsPlayable, JournalsGoOn, Past, PlaysLines, journals_of};
 ghost use Rattle.zj_cli.specs.Asked.{AreBuilt};
+ghost use Rattle.zj_dev.specs.declared.span.Span.{Span};
+ghost use Rattle.zj_script.specs.declared.answer.Answer.{Answer};
+ghost use Rattle.zj_script.specs.declared.line.Line.{Line};
+ghost use Rattle.zj_cli.specs.declared.phase.Phase.{Phase};
 ghost use Rattle.zj_cli.specs.Faults.{fault_of_mounting};
-ghost use Rattle.zj_cli.specs.Phases.{AreOf, ArePhases, DevicesGoOn, HasRound, JournalFails};
-ghost use Rattle.zj_cli.specs.Play.{IsInputCause, ReadsInput, RoundEnds, RunsPlay, ScriptEnds};
+ghost use Rattle.zj_cli.specs.Phases.{AreOf, ArePhases, DevicesGoOn, HasRound, JournalFails, spans_in};
+ghost use Rattle.zj_cli.specs.Play.{IsInputCause, LeavesCuts, ReadsInput, RoundEnds, RunsPlay, ScriptEnds};
 ghost use Rattle.zj_cli.specs.Tool as tool;
 ghost use Rattle.zj_cli.specs.Tool.{IsBeforeWriting};
 
@@ -91,6 +95,8 @@ fn play_set<D: Disk, S: Source, K: Sink>(
         (record { left = S.left input.new; held = K.held out.new; names = now; input_faults = S.faults input.new; output_faults = K.faults out.new; shelf_faults = since })
         (result_err result.1)))
         ⊎ (IfErr result.1 (λ fault. (told : MountFault) × (fault ≡ fault_of_mounting told) × IsMountCause D.view home.old.told home.old.device home.new.device areas.areas result.0.areas told) × (IsErr result.1) × (input.new ≡ input.old) × (out.new ≡ out.old) × (length phases.new.items ≡ 1)) }
+    ensures begins { (first : Phase) (later : List Phase) → phases.new.items ≡ first ∷ later → map (λ s. s.from) (spans_in first) ≡ map (λ d. d.calls) (D.view home.old.device ∷ map (λ a. D.view a.device) areas.areas) }
+    ensures cuts { (spans : List Span) → HasRound phases.new.items spans → (start : State) × (tree : FileTree) × HasTree D.view home.old.told home.old.device areas.areas start tree × LeavesCuts home.old.told start tree (AreOf D.view home.new.device result.0.areas) spans }
     ensures unwritten { IfErr result.1 (λ fault. IsBeforeWriting tool.Play fault → out.new ≡ out.old) }
 {
     fit_is_run();
@@ -174,6 +180,7 @@ fn play_round<D: Disk, K: Sink>(
     requires playable { All (IsPlayable (length service.old.cores)) schedule.now }
     requires left { All (λ c. length schedule.now ≤ left_of c.pass) service.old.cores }
     ensures ends { (past : Past) → HasPast D.view service.old past → RoundEnds D.view service.old service.new past schedule.now (K.held out.old) (K.held out.new) (K.faults out.old) (K.faults out.new) (result_err result) }
+    ensures cuts { (past : Past) → HasPast D.view service.old past → (rest : List Line) × (answers : List Answer) × PlaysLines D.view service.old service.new past schedule.now rest answers }
     ensures cache { service.new.cache ≡ service.old.cache }
     ensures journals { JournalsGoOn D.view (journals_of service.old.cores) (journals_of service.new.cores) }
     ensures home { home.new ≡ home.old }
