@@ -11,5 +11,6 @@ pub mod PlayLemmas
 pub mod RoundLemmas
 pub mod SessionLemmas
 pub mod CheckLemmas
+pub mod CutLemmas
 pub mod ShelfLemmas
 pub mod MakeLemmas

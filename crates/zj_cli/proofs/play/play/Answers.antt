@@ -8,6 +8,7 @@ use Rattle.zj_cli.specs.Outside.{Outside}
 use Rattle.zj_cli.specs.Phases.{AreOf, AreUnder, HasRound, JournalFails}
 use Rattle.zj_cli.specs.Play.{PlayEnds}
 use Rattle.zj_cli.proofs.CheckLemmas.{close_cause, mount_cause, mounts_tree, rose_under}
+use Rattle.zj_cli.proofs.CutLemmas.{begins_told, cuts_under, none_begin, none_round}
 use Rattle.zj_cli.proofs.Ends.{if_err, on_ok, told_failed, told_quiet}
 use Rattle.zj_cli.proofs.PlayLemmas.{early, play_ends, unopened}
 use Rattle.zj_cli.proofs.SessionLemmas.{as_many}
@@ -26,8 +27,12 @@ returns-in_err-home-clause-runs g c =
     let now = g.H.Shelf.names c.open_all.new.shelf in
     let outside : Outside = record { left = g.S.Source.left c.args.input.now; held = g.K.Sink.held c.args.out.now; names = before; input_faults = g.S.Source.faults c.args.input.now; output_faults = g.K.Sink.faults c.args.out.now; shelf_faults = g.H.Shelf.faults c.args.shelf.now } in
     let after : Outside = record { left = g.S.Source.left c.args.input.now; held = g.K.Sink.held c.args.out.now; names = now; input_faults = g.S.Source.faults c.args.input.now; output_faults = g.K.Sink.faults c.args.out.now; shelf_faults = g.H.Shelf.faults c.open_all.new.shelf } in
+    let none = c.reserve.ensures.items ∙ c.requires.none in
     record {
       back = only_read before now c.in_err-home.ensures.back;
+      phases_are = inl (none, c.in_err-home.ensures.back);
+      begins = none_begin before now c.reserve.new.self.items none;
+      cuts = λ spans has. absurd (none_round c.reserve.new.self.items spans none has);
       ends = rw p.1 (unopened outside after _ c.in_err-home.field-0.0 p.0 p.2 c.in_err-home.ensures.cause (refl, refl) (c.reserve.ensures.items ∙ c.requires.none));
     }
 
@@ -50,10 +55,17 @@ returns-clause-runs g c =
     let count = as_many view old new played.journals ∙ opened.in_order.many in
     let to : (disks : List DiskView) → AreUnder super.sizes.cores now disks → AreOf view d' new disks = disks_are view super.sizes.cores before now d' new again count (omega (arith, as_many view old new played.journals, opened.in_order.few)) in
     let are_phases = phases_under super.sizes.cores (AreOf view d' new) (AreUnder super.sizes.cores now) phases to played.phases in
+    let begin = begins_told view before mid now d d' old new opened.out (omega (arith, opened.in_order.few)) played.home played.journals super.sizes.cores phases are_phases to played.begins in
     let outside : Outside = record { left = g.S.Source.left c.args.input.now; held = g.K.Sink.held c.args.out.now; names = before; input_faults = g.S.Source.faults c.args.input.now; output_faults = g.K.Sink.faults c.args.out.now; shelf_faults = g.H.Shelf.faults c.args.shelf.now } in
     let after : Outside = record { left = g.S.Source.left c.play_set-areas.new.input; held = g.K.Sink.held c.play_set-areas.new.out; names = now; input_faults = g.S.Source.faults c.play_set-areas.new.input; output_faults = g.K.Sink.faults c.play_set-areas.new.out; shelf_faults = g.H.Shelf.faults c.close_all.new.shelf } in
     record {
       back = all_back view before mid now (view d) (view d') old new opened.out closes played.journals played.home;
+      phases_are = inr (super, opened.home, are_phases);
+      begins = begin;
+      cuts = λ spans has.
+          let left = played.cuts spans has in
+          (super, left.0, left.1, mounts_tree view before mid now (view d) (view d') old new super opened.out again opened.in_order opened.home opened.journals d left.0 left.1 refl left.2,
+          cuts_under super left.0 left.1 (AreOf view d' new) (AreUnder super.sizes.cores now) spans to left.3);
       ends = subst (λ fault. PlayEnds outside after phases fault) (sym (ap (λ r. result_err r) c.and.ensures)) (play_ends outside after phases c.play_set-areas.result.1 c.map_err-closed.result
           (elim played.ends [
             | inl from ↦ inl (record {
