@@ -240,7 +240,7 @@ session_recovers {D = D} law view super start tree cache cores areas areas' base
 module _ {D : Type 0} (view : D → DiskView) (super : Super) (start : State) (tree : FileTree) (old new : ServiceState D) (areas : List (AreaView D)) (lines : List Line) (Stand : List DiskView → Type 0)
     (sized : old.cache.sizes ≡ super.sizes) (held : old.cache.start ≡ start) (tails : map (λ (a : AreaView D). a.tail) areas ≡ super.tails) (shows : Shows super.sizes start tree) (fits : FitIsRun) (spans : List Span)
     (recover : (history : List Operation) (sealed : Journals) (calls : List Call) (replies : List Reply) → IsService new.cache new.cores history → AreLogged view (past_of view areas).from (past_of view areas).tails new.cores history sealed → IsServed super.sizes history calls replies
-        → (disks : List DiskView) → Stand disks → CrashesRecover disks spans super.sizes super.tails start tree calls replies history) where
+    → (disks : List DiskView) → Stand disks → CrashesRecover disks spans super.sizes super.tails start tree calls replies history) where
   pub cuts_of : (rest : List Line) (answers : List Answer) → PlaysLines view old new (past_of view areas) lines rest answers → LeavesCuts super start tree Stand spans
   cuts_of rest answers plays =
       let fit = rw (sized, held) at plays.fit in

@@ -2,6 +2,7 @@
 //! the texts of faults.
 
 mod check;
+mod commits;
 mod handles;
 mod make;
 mod play;

@@ -99,14 +99,19 @@ module _ {D : Type 0} (view : D → DiskView) (cache : CacheParameters) (from : 
     -- what is found in an image that a crash left
     found_in_image : (image : List ℕ) → slice_get images (suc i) ≡ Some image → (count : ℕ) × HoldsFirst c.area.sizes c.area.core c.area.tail (records_of sealed i) count image
         → (records : List Record) × IsFoundOf i records
-    found_in_image image at first = (take first.0 (records_of sealed i), record {
-      holds = λ other at_other. (first.1.end,
+    found_in_image image at first = (
+      take first.0 (records_of sealed i),
+      record {
+        holds = λ other at_other. (
+          first.1.end,
           subst (λ im. Holds cache.sizes i im (tail_at tails i) (take first.0 (records_of sealed i)) first.1.end) (some_is (sym at ∙ at_other))
-          (subst (λ n. Holds n i image (tail_at tails i) (take first.0 (records_of sealed i)) first.1.end) area_sizes
-          (subst (λ core. Holds c.area.sizes core image (tail_at tails i) (take first.0 (records_of sealed i)) first.1.end) area_core
-          (subst (λ t. Holds c.area.sizes c.area.core image t (take first.0 (records_of sealed i)) first.1.end) log.tail first.1.holds))));
-      frozen = λ k r here. one_frozen k r (whole_has first.0 (records_of sealed i) k r here);
-    })
+              (subst (λ n. Holds n i image (tail_at tails i) (take first.0 (records_of sealed i)) first.1.end) area_sizes
+              (subst (λ core. Holds c.area.sizes core image (tail_at tails i) (take first.0 (records_of sealed i)) first.1.end) area_core
+              (subst (λ t. Holds c.area.sizes c.area.core image t (take first.0 (records_of sealed i)) first.1.end) log.tail first.1.holds))),
+        );
+        frozen = λ k r here. one_frozen k r (whole_has first.0 (records_of sealed i) k r here);
+      },
+    )
 
   -- what is found in the images, where each core has some
   module _ (each : (i : ℕ) → i < length cores → (records : List Record) × IsFoundOf i records) where

@@ -130,5 +130,5 @@ pub record IsRightOfLog (sizes : Numbers) (tail : Tail) (state : BlockState) (kn
 pub record FitsLog (sizes : Numbers) (tails : List Tail) (start : BlockState) (before : List Operation) (standing : Standing) (played : List Played) (history : List Operation) : Type 0 where
   pub each : (k : ℕ) (p : Played) → slice_get played k ≡ Some p
       → let front : List Played = take k played in
-        let known : List Operation = take (length before + tickets_in front) history in
-        IsSomeAnd p.0.core (λ core. IsRightOfLog sizes (tail_at tails core) (after start known) known history (running_after standing front core) (failed_after standing front core) (handle_after front core) p.0.act p.1)
+      let known : List Operation = take (length before + tickets_in front) history in
+      IsSomeAnd p.0.core (λ core. IsRightOfLog sizes (tail_at tails core) (after start known) known history (running_after standing front core) (failed_after standing front core) (handle_after front core) p.0.act p.1)

@@ -63,9 +63,13 @@ returns-clause-runs g c =
       phases_are = inr (super, opened.home, are_phases);
       begins = begin;
       cuts = λ spans has.
-          let left = played.cuts spans has in
-          (super, left.0, left.1, mounts_tree view before mid now (view d) (view d') old new super opened.out again opened.in_order opened.home opened.journals d left.0 left.1 refl left.2,
-          cuts_under super left.0 left.1 (AreOf view d' new) (AreUnder super.sizes.cores now) spans to left.3);
+          let left = played.cuts spans has in (
+            super,
+            left.0,
+            left.1,
+            mounts_tree view before mid now (view d) (view d') old new super opened.out again opened.in_order opened.home opened.journals d left.0 left.1 refl left.2,
+            cuts_under super left.0 left.1 (AreOf view d' new) (AreUnder super.sizes.cores now) spans to left.3,
+          );
       ends = subst (λ fault. PlayEnds outside after phases fault) (sym (ap (λ r. result_err r) c.and.ensures)) (play_ends outside after phases c.play_set-areas.result.1 c.map_err-closed.result
           (elim played.ends [
             | inl from ↦ inl (record {

@@ -192,13 +192,18 @@ returns-in-Ok-start-clause-ends g c =
     let many = sym (length-map c.play_round-played.new.service.cores (λ (x : CoreState _). x.area)) ∙ many_new in
     let schedule = c.in-Ok.ensures.schedule in
     let on_settled : AreSettled g.D.Disk.view c.args.areas.areas (journals_of c.in-Ok-start.service.cores) = subst (λ (areas : List (AreaView _)). AreSettled g.D.Disk.view c.args.areas.areas areas) (sym started) settled in
-    inl (c.in-Ok.prepared.0.blocks, c.in-Ok.prepared.0.tree.tree, has, λ names now faults since.
-        script_ends g.D.Disk.view c.args.home.now.told c.in-Ok.prepared.0.blocks c.in-Ok.prepared.0.tree.tree c.in-Ok-start.service c.play_round-played.new.service c.moments-ready.new.areas.areas c.in-Ok.prepared.1 (AreOf g.D.Disk.view c.play_round-played.new.home.device c.moments-ended.new.areas.areas) (HasRound c.push_reserved-in-Ok-start.new.self.items) (JournalFails g.D.Disk.view c.args.areas.areas c.moments-ended.new.areas.areas) (record { left = g.S.Source.left c.args.input.now; held = g.K.Sink.held c.args.out.now; names = names; input_faults = g.S.Source.faults c.args.input.now; output_faults = g.K.Sink.faults c.args.out.now; shelf_faults = faults }) (record { left = g.S.Source.left c.prepare-prepared.new.input; held = g.K.Sink.held c.play_round-played.new.out; names = now; input_faults = g.S.Source.faults c.prepare-prepared.new.input; output_faults = g.K.Sink.faults c.play_round-played.new.out; shelf_faults = since })
-        sized held tails has.shows c.fit_is_run.ensures schedule.0 schedule.1 schedule.2 c.in-Ok.ensures.built c.in-Ok.ensures.quiet (spans_in c.new-in-Ok-start.result) (c.new.result, c.new-in-Ok-start.result, items2, refl)
-        (session_recovers c.round_recovers.ensures g.D.Disk.view c.args.home.now.told c.in-Ok.prepared.0.blocks c.in-Ok.prepared.0.tree.tree c.play_round-played.new.service.cache c.play_round-played.new.service.cores c.moments-ready.new.areas.areas c.moments-ended.new.areas.areas c.args.home.now.device c.play_round-played.new.home.device c.new-in-Ok-start.result c.moments-ready.result c.moments-ended.result
-        then_sized then_held tails same3 c.new-in-Ok-start.ensures.spans first final many (omega (arith, round_devices, count)) quiet read has.held has.shows)
-        (λ core below rose. subst (λ (areas : List (AreaView _)). JournalFails g.D.Disk.view c.args.areas.areas areas core) (sym same3) (journal_fails g.D.Disk.view c.args.areas.areas c.in-Ok-start.service.cores c.play_round-played.new.service.cores core on_settled c.play_round-played.ensures.journals below rose))
-        (result_err c.play_round-played.result) (c.play_round-played.ensures.ends (past_of g.D.Disk.view c.moments-ready.new.areas.areas) c.in-Ok-start.ensures.past))
+    inl (
+      c.in-Ok.prepared.0.blocks,
+      c.in-Ok.prepared.0.tree.tree,
+      has,
+      λ names now faults since.
+          script_ends g.D.Disk.view c.args.home.now.told c.in-Ok.prepared.0.blocks c.in-Ok.prepared.0.tree.tree c.in-Ok-start.service c.play_round-played.new.service c.moments-ready.new.areas.areas c.in-Ok.prepared.1 (AreOf g.D.Disk.view c.play_round-played.new.home.device c.moments-ended.new.areas.areas) (HasRound c.push_reserved-in-Ok-start.new.self.items) (JournalFails g.D.Disk.view c.args.areas.areas c.moments-ended.new.areas.areas) (record { left = g.S.Source.left c.args.input.now; held = g.K.Sink.held c.args.out.now; names = names; input_faults = g.S.Source.faults c.args.input.now; output_faults = g.K.Sink.faults c.args.out.now; shelf_faults = faults }) (record { left = g.S.Source.left c.prepare-prepared.new.input; held = g.K.Sink.held c.play_round-played.new.out; names = now; input_faults = g.S.Source.faults c.prepare-prepared.new.input; output_faults = g.K.Sink.faults c.play_round-played.new.out; shelf_faults = since })
+          sized held tails has.shows c.fit_is_run.ensures schedule.0 schedule.1 schedule.2 c.in-Ok.ensures.built c.in-Ok.ensures.quiet (spans_in c.new-in-Ok-start.result) (c.new.result, c.new-in-Ok-start.result, items2, refl)
+          (session_recovers c.round_recovers.ensures g.D.Disk.view c.args.home.now.told c.in-Ok.prepared.0.blocks c.in-Ok.prepared.0.tree.tree c.play_round-played.new.service.cache c.play_round-played.new.service.cores c.moments-ready.new.areas.areas c.moments-ended.new.areas.areas c.args.home.now.device c.play_round-played.new.home.device c.new-in-Ok-start.result c.moments-ready.result c.moments-ended.result
+          then_sized then_held tails same3 c.new-in-Ok-start.ensures.spans first final many (omega (arith, round_devices, count)) quiet read has.held has.shows)
+          (λ core below rose. subst (λ (areas : List (AreaView _)). JournalFails g.D.Disk.view c.args.areas.areas areas core) (sym same3) (journal_fails g.D.Disk.view c.args.areas.areas c.in-Ok-start.service.cores c.play_round-played.new.service.cores core on_settled c.play_round-played.ensures.journals below rose))
+          (result_err c.play_round-played.result) (c.play_round-played.ensures.ends (past_of g.D.Disk.view c.moments-ready.new.areas.areas) c.in-Ok-start.ensures.past),
+    )
 
 pub returns-in-Ok-start-clause-unwritten : goal.returns-in-Ok-start-clause-unwritten
 returns-in-Ok-start-clause-unwritten g c =
@@ -302,10 +307,14 @@ returns-in-Ok-start-clause-cuts g c =
     let schedule = c.in-Ok.ensures.schedule in
     let on_settled : AreSettled g.D.Disk.view c.args.areas.areas (journals_of c.in-Ok-start.service.cores) = subst (λ (areas : List (AreaView _)). AreSettled g.D.Disk.view c.args.areas.areas areas) (sym started) settled in
     let played = c.play_round-played.ensures.cuts (past_of g.D.Disk.view c.moments-ready.new.areas.areas) c.in-Ok-start.ensures.past in
-    λ spans round. (c.in-Ok.prepared.0.blocks, c.in-Ok.prepared.0.tree.tree, has,
-        subst (λ (s : List Span). LeavesCuts c.args.home.now.told c.in-Ok.prepared.0.blocks c.in-Ok.prepared.0.tree.tree (AreOf g.D.Disk.view c.play_round-played.new.home.device c.moments-ended.new.areas.areas) s) (round_is c.push_reserved-in-Ok-start.new.self.items c.new.result c.new-in-Ok-start.result spans items2 round)
-        (cuts_of g.D.Disk.view c.args.home.now.told c.in-Ok.prepared.0.blocks c.in-Ok.prepared.0.tree.tree c.in-Ok-start.service c.play_round-played.new.service c.moments-ready.new.areas.areas c.in-Ok.prepared.1 (AreOf g.D.Disk.view c.play_round-played.new.home.device c.moments-ended.new.areas.areas)
-        sized held tails has.shows c.fit_is_run.ensures (spans_in c.new-in-Ok-start.result)
-        (session_recovers c.round_recovers.ensures g.D.Disk.view c.args.home.now.told c.in-Ok.prepared.0.blocks c.in-Ok.prepared.0.tree.tree c.play_round-played.new.service.cache c.play_round-played.new.service.cores c.moments-ready.new.areas.areas c.moments-ended.new.areas.areas c.args.home.now.device c.play_round-played.new.home.device c.new-in-Ok-start.result c.moments-ready.result c.moments-ended.result
-        then_sized then_held tails same3 c.new-in-Ok-start.ensures.spans first final many (omega (arith, round_devices, count)) quiet read has.held has.shows)
-        played.0 played.1 played.2))
+    λ spans round. (
+      c.in-Ok.prepared.0.blocks,
+      c.in-Ok.prepared.0.tree.tree,
+      has,
+      subst (λ (s : List Span). LeavesCuts c.args.home.now.told c.in-Ok.prepared.0.blocks c.in-Ok.prepared.0.tree.tree (AreOf g.D.Disk.view c.play_round-played.new.home.device c.moments-ended.new.areas.areas) s) (round_is c.push_reserved-in-Ok-start.new.self.items c.new.result c.new-in-Ok-start.result spans items2 round)
+          (cuts_of g.D.Disk.view c.args.home.now.told c.in-Ok.prepared.0.blocks c.in-Ok.prepared.0.tree.tree c.in-Ok-start.service c.play_round-played.new.service c.moments-ready.new.areas.areas c.in-Ok.prepared.1 (AreOf g.D.Disk.view c.play_round-played.new.home.device c.moments-ended.new.areas.areas)
+          sized held tails has.shows c.fit_is_run.ensures (spans_in c.new-in-Ok-start.result)
+          (session_recovers c.round_recovers.ensures g.D.Disk.view c.args.home.now.told c.in-Ok.prepared.0.blocks c.in-Ok.prepared.0.tree.tree c.play_round-played.new.service.cache c.play_round-played.new.service.cores c.moments-ready.new.areas.areas c.moments-ended.new.areas.areas c.args.home.now.device c.play_round-played.new.home.device c.new-in-Ok-start.result c.moments-ready.result c.moments-ended.result
+          then_sized then_held tails same3 c.new-in-Ok-start.ensures.spans first final many (omega (arith, round_devices, count)) quiet read has.held has.shows)
+          played.0 played.1 played.2),
+    )

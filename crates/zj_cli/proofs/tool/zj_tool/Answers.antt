@@ -24,6 +24,9 @@ make_tells asked sizes before after fault told ends same one = subst (λ (s : Nu
 check_tells : (before after : Outside) (fault told : Option Fault) → RunsCheck before after fault → told ≡ fault → RunsCheck before after told
 check_tells before after fault told runs same = subst (λ (f : Option Fault). RunsCheck before after f) (sym same) runs
 
+play_tells : (before after : Outside) (phases told_phases : List Phase) (fault told : Option Fault) → RunsPlay before after phases fault → told_phases ≡ phases → told ≡ fault → RunsPlay before after told_phases told
+play_tells before after phases told_phases fault told runs same_phases same = subst (λ (f : Option Fault). RunsPlay before after told_phases f) (sym same) (subst (λ (ps : List Phase). RunsPlay before after ps fault) (sym same_phases) runs)
+
 -- no command ends with the fault of the words
 make_knows_words : (sizes : Numbers) (before after : Outside) (fault told : Option Fault) → MakeEnds sizes before after fault → told ≡ fault → told ≡ Some faults.Words → ⊥
 make_knows_words sizes before after fault told ends same words = subst (λ (f : Option Fault). MakeEnds sizes before after f) (sym same ∙ words) ends
@@ -78,6 +81,14 @@ returns-clause-words g c = elim c.match-read_command.branch [
   | in-Some-Check w ↦ (λ words. absurd (check_knows_words _ _ _ _ (w.check-done.ensures.runs (g.S.Source.left c.args.input.now) (g.S.Source.faults c.args.input.now)) (c.new-2.ensures.fault ∙ c.err-2.ensures.value ∙ ap (λ r. result_err r) w.done-is) words), λ none. absurd (none (commands.command_of w.in-Some-Check.field-0) w.in-Some-Check.ensures.some))
   | in-Some-Dump w ↦ (λ words. absurd (dump_knows_words _ _ _ _ (w.dump-done.ensures.runs (g.S.Source.left c.args.input.now) (g.S.Source.faults c.args.input.now)) (c.new-2.ensures.fault ∙ c.err-2.ensures.value ∙ ap (λ r. result_err r) w.done-is) words), λ none. absurd (none (commands.command_of w.in-Some-Dump.field-0) w.in-Some-Dump.ensures.some))
   | in-None w ↦ (λ words command. none_asked _ command (w.in-None.ensures.no_play) (w.in-None.ensures.no_check) (w.in-None.ensures.no_dump) (made_none c.sizes_to_make.result _ c.in_default.is c.sizes_to_make.ensures.none), λ none. c.new-2.ensures.fault ∙ c.err-2.ensures.value ∙ ap (λ r. result_err r) w.done-is)
+]
+
+pub returns-clause-play : goal.returns-clause-play
+returns-clause-play g c asks = elim c.match-read_command.branch [
+  | in-Some-Play w ↦ rw (w.shelf-is, w.input-is, w.out-is) (play_tells _ _ _ _ _ _ w.play-done.ensures.runs (c.new-2.ensures.phases ∙ ap (λ v. v.items) w.phases-is) (c.new-2.ensures.fault ∙ c.err-2.ensures.value ∙ ap (λ r. result_err r) w.done-is))
+  | in-Some-Check w ↦ absurd (differ _ (codes "check") (codes "play") (asked _ w.in-Some-Check.field-0 readings.Check w.in-Some-Check.field-0-is w.in-Some-Check.ensures.some) asks (λ e. omega (arith, e)))
+  | in-Some-Dump w ↦ absurd (differ _ (codes "dump") (codes "play") (asked _ w.in-Some-Dump.field-0 readings.Dump w.in-Some-Dump.field-0-is w.in-Some-Dump.ensures.some) asks (λ e. omega (arith, e)))
+  | in-None w ↦ absurd (w.in-None.ensures.no_play asks)
 ]
 
 pub returns-clause-check : goal.returns-clause-check

@@ -10,6 +10,7 @@ nothing (r ∷ records) none = absurd (omega (arith, none))
 
 pub returns-in-Ok-clause-rest : goal.returns-in-Ok-clause-rest
 returns-in-Ok-clause-rest g c = λ none unknown settled.
-    let empty = sym c.len.ensures.len ∙ none in
-    (c.in-Ok.ensures.at_rest unknown settled (nothing c.in-Ok.found empty),
-    c.in-Ok.ensures.none unknown empty ∙ sym (ap (λ (a : AreaView g.row.D.Denot). a.tail) c.scan.ensures.same))
+    let empty = sym c.len.ensures.len ∙ none in (
+      c.in-Ok.ensures.at_rest unknown settled (nothing c.in-Ok.found empty),
+      c.in-Ok.ensures.none unknown empty ∙ sym (ap (λ (a : AreaView g.row.D.Denot). a.tail) c.scan.ensures.same),
+    )
