@@ -45,7 +45,7 @@ fn tells_where_a_script_is_refused(rt: HostRuntime) -> Result<(), Fail> {
         ("0 commit\n0 list\n", 3, 2, 7),
         ("0 look\n0 list\n", 2, 1, 3),
         ("0 fsync /\n0 list\n", 2, 1, 3),
-        ("0 list /\nsync\n", 2, 2, 1),
+        ("0 list /\n0 sync\n", 2, 2, 3),
         ("0 list\n0 commit\n", 3, 1, 7),
         ("0 commit now\n", 2, 1, 10),
         ("0 list /\ncheckpoint\n", 2, 2, 1),
