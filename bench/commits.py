@@ -13,6 +13,7 @@ import sys
 import tempfile
 import time
 
+import measure  # it finds the image maker
 from image import journal, new_home, record, write
 
 COMMITS = 1_000
