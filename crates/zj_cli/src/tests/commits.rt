@@ -193,7 +193,7 @@ fn a_reader_follows(rt: HostRuntime) -> Result<(), Fail> {
     Ok(())
 }
 
-/// The devices of an image of two cores that was just made, of which one has calls that fail: this one, or all from it on.
+/// The devices of an image of two cores that was just made, of which one journal has calls that fail: this one, or all from it on.
 fn failing_set(
     alloc: Global,
     home: &[u8],
@@ -203,17 +203,14 @@ fn failing_set(
 ) -> Result<MemShelf, AllocError> {
     let zeros = vec![in alloc; 0u8; 131_072]?;
     let mut shelf = MemShelf::new(alloc)?;
-    for (name, bytes) in [
-        ("home", home),
-        ("j0", zeros.as_slice()),
-        ("j1", zeros.as_slice()),
-    ] {
+    let _none = shelf.put("home", MemDisk::new(alloc, home, &[], None)?)?;
+    for name in ["j0", "j1"] {
         let disk = if name != failing {
-            MemDisk::new(alloc, bytes, &[], None)?
+            MemDisk::new(alloc, &zeros, &[], None)?
         } else if stops {
-            MemDisk::new(alloc, bytes, &[], Some(number))?
+            MemDisk::new(alloc, &zeros, &[], Some(number))?
         } else {
-            MemDisk::new(alloc, bytes, &[number], None)?
+            MemDisk::new(alloc, &zeros, &[number], None)?
         };
         let _none = shelf.put(name, disk)?;
     }
