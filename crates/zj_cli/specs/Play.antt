@@ -131,8 +131,8 @@ PlayEnds before after phases (Some (faults.Device device)) = (IsMountDeviceCause
 PlayEnds before after phases (Some faults.Memory) = StopsEarly before after
 PlayEnds before after phases (Some fault) = PlaysFrom before after phases (Some fault)
 
--- Where lines were begun: some first ones of a schedule were played; they, their answers and one history from the image's blocks on fit; and
--- each crash within the round recovers to a cut of that history.
+-- Where lines were begun: there are lines that were played; they, their answers and one history from the image's blocks on fit; and each
+-- crash within the round recovers to a cut of that history. That they are those of the input is said by `Plays` alone.
 pub record LeavesCuts (super : Super) (start : State) (tree : FileTree) (Stand : List DiskView → Type 0) (spans : List Span) : Type 0 where
   pub played : List Played
   pub history : List Operation
