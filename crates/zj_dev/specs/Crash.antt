@@ -22,7 +22,3 @@ pub record IsCrashSet (disks : List DiskView) (spans : List Span) (moments : Lis
 -- Nothing was written in a span: at each moment of it a crash leaves what it might leave at the first.
 abbrev pub IsQuietIn : DiskView → Span → Type 0
 IsQuietIn disk span = (moment : ℕ) (image : List ℕ) → span.from ≤ moment → moment ≤ span.to → disk.may_leave moment image ≡ disk.may_leave span.from image
-
--- A span begins where another ends.
-abbrev pub FollowsOn : Span → Span → Type 0
-FollowsOn earlier later = later.from ≡ earlier.to
