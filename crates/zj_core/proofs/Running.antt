@@ -41,6 +41,7 @@ module _ {D : Type 0} (p q : PassState) (area : AreaView D) (sizes : Numbers) (h
       keeps = subst (λ (x : ℕ × List Operation). Keeps (operations_of x.1 (record { core = x.0; number = running.number })) running) (λ i. (sym core i, sym operations i)) runs.keeps;
       none_later = subst (λ (x : ℕ × List Operation). All (λ (o : Operation). (o.core ≡ x.0) × (o.number ≤ running.number)) x.1) (λ i. (sym core i, sym operations i)) runs.none_later;
       ascending = runs.ascending;
+      blocks = runs.blocks;
       within = runs.within;
       number = runs.number;
       fits = runs.fits;
@@ -56,6 +57,7 @@ runs_none p area sizes nothing none ready = record {
   keeps = subst (λ (l : List Operation). Keeps (operations_of l (record { core = p.core; number = area.end.number })) (empty_transaction p.core sizes.cores area.end.number)) (sym none) (nothing p.core sizes.cores area.end.number);
   none_later = subst (λ (l : List Operation). All (λ (o : Operation). (o.core ≡ p.core) × (o.number ≤ area.end.number)) l) (sym none) (All-nil (λ (o : Operation). (o.core ≡ p.core) × (o.number ≤ area.end.number)));
   ascending = tt;
+  blocks = omega arith;
   within = λ block some. absurd (true≢false (sym some));
   number = λ sound. refl;
   fits = λ sound some. absurd (some refl);
@@ -115,6 +117,7 @@ module _ {D : Type 0} (p q : PassState) (area : AreaView D) (sizes : Numbers) (h
     keeps = subst (λ (l : List Operation). Keeps l new) (sym kept_now) (joins.keeps (operations_of (mine p).operations (record { core = p.core; number = old.number })) runs.keeps);
     none_later = none_later;
     ascending = joins.ascending;
+    blocks = joins.blocks;
     within = λ block some. ⊎_elim (λ before. runs.within block before) (λ inside. inside) (joins.within block some);
     number = λ sound. new_number ∙ runs.number sound;
     fits = λ sound some. fits_still sound;
@@ -156,6 +159,7 @@ module _ {D : Type 0} (p : PassState) (area : AreaView D) (sizes : Numbers) (han
     keeps = subst (λ (l : List Operation). Keeps l (empty_transaction old.core old.cores (old.number + 1))) (sym (none_of (mine p).operations p.core old.number runs.none_later)) (nothing old.core old.cores (old.number + 1));
     none_later = all_later (mine p).operations p.core old.number runs.none_later;
     ascending = tt;
+    blocks = omega arith;
     within = λ block some. absurd (true≢false (sym some));
     number = λ fine. ap (λ n. n + 1) (runs.number sound) ∙ sym (numbered fine);
     fits = λ fine some. absurd (some refl);

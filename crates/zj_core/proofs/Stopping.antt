@@ -26,6 +26,7 @@ use Rattle.zj_inode.specs.Run.{contents_found}
 use Rattle.zj_tx.specs.Frozen.{image_in}
 use Rattle.zj_tx.specs.Laws.{KeepsOneMore}
 use Rattle.zj_tx.specs.Record.{Ascends}
+use Rattle.zj_block.specs.declared.sizes.TheConstants.{MAX_RECORD_BLOCKS}
 use Rattle.zj_tx.specs.Running.{HasNoted, IsAdded, IsRoomCause, Transaction, new_count, stamped}
 use Rattle.zj_tx.specs.declared.fault.RoomFault.{RoomFault}
 use Rattle.zj_tx.specs.declared.fault.RoomFault.TheVariants as rooms
@@ -148,7 +149,7 @@ module _ (cache : CacheParameters) (p m q : PassState) (sizes : Numbers) (found 
     knows = draws.knows;
   }
 
-  module _ (old new : Transaction) (numbered : number ≡ old.number) (law : KeepsOneMore) (added : IsAdded old new ticket written follows) (ascending : Ascends 0 new.parts) where
+  module _ (old new : Transaction) (numbered : number ≡ old.number) (law : KeepsOneMore) (added : IsAdded old new ticket written follows) (ascending : Ascends 0 new.parts) (blocks : length new.parts ≤ MAX_RECORD_BLOCKS) where
     noted : HasNoted follows (writers_found draws.operation)
     noted = subst (λ (fs : List FoundBlock). HasNoted follows (filter_map (λ (f : FoundBlock). f.writer) fs)) (sym draws.found) has.noted
 
@@ -170,6 +171,7 @@ module _ (cache : CacheParameters) (p m q : PassState) (sizes : Numbers) (found 
       number = draws.number_is ∙ numbered;
       keeps = λ operations keeps. law operations draws.operation old new follows keeps noted added_as;
       ascending = ascending;
+      blocks = blocks;
       within = within;
     }
 

@@ -1,5 +1,5 @@
 -- What a commit does, at each moment of its device calls.
-use Rattle.std.specs.Prelude.{◌≡◌, ◌≢◌, ◌⊎◌, ◌+◌, true, false, List, [], ◌∷◌, ◌++◌}
+use Rattle.std.specs.Prelude.{◌≡◌, ◌≢◌, ◌⊎◌, ℕ, ◌+◌, true, false, List, [], ◌∷◌, ◌++◌}
 use Rattle.zj_dev.specs.Fault.{Rose}
 use Rattle.zj_dev.specs.Disk.{Continues, DiskView, EachImageSince, IsDisk}
 use Rattle.zj_tx.specs.Record.{IsRecord, Accepts, Record}
@@ -25,12 +25,18 @@ pub record Seals {D : Type 0} (view : D → DiskView) (old new : CoreState D) (r
   pub images : (records : List Record) → IsAtRest (journal_of view old.area) records → EachImageSince (view old.area.device).calls (view new.area.device)
       (λ image. Holds old.area.sizes old.area.core image old.area.tail records old.area.end ⊎ Holds old.area.sizes old.area.core image old.area.tail (records ++ r ∷ []) (behind old.area.sizes old.area.end r))
 
--- A commit that was answered Ok: the journal holds the new record behind the others, and goes on behind it.
+-- how many calls a commit makes of its journal's device: it writes the record with its gate closed, and the gate behind it, and syncs; then it
+-- opens the gate, and syncs
+abbrev pub calls_of_commit : ℕ
+calls_of_commit = 5
+
+-- A commit that was answered Ok: once its calls were made the journal holds the new record behind the others, and goes on behind it.
 pub record Commits {D : Type 0} (view : D → DiskView) (old new : CoreState D) : Type 0 where
   pub sealed_as : Record
   pub seals : Seals view old new sealed_as
   pub end : new.area.end ≡ behind old.area.sizes old.area.end sealed_as
   pub sound : new.area.failed ≡ false
+  pub calls : (view new.area.device).calls ≡ (view old.area.device).calls + calls_of_commit
   pub at_rest : (records : List Record) → IsAtRest (journal_of view old.area) records → IsAtRest (journal_of view new.area) (records ++ sealed_as ∷ [])
 
 -- A commit whose device failed: the core has failed from then on.

@@ -58,7 +58,7 @@ abbrev pub operations_running : {D : Type 0} → CoreState D → List Operation
 operations_running c = operations_of (mine c.pass).operations (record { core = c.pass.core; number = c.running.number })
 
 -- The running transaction of a core keeps what the core's operations with its number found and left, and the core has none with a
--- greater number. Its blocks are blocks of the image, each once. While no commit has failed its number is that of the next record, and where it has
+-- greater number. Its blocks are blocks of the image, each once, and no more than a record has. While no commit has failed its number is that of the next record, and where it has
 -- an operation a longest record has room in the journal; once one has failed it has none.
 pub record Runs {D : Type 0} (c : CoreState D) : Type 0 where
   pub core : c.running.core ≡ c.pass.core
@@ -66,6 +66,7 @@ pub record Runs {D : Type 0} (c : CoreState D) : Type 0 where
   pub keeps : Keeps (operations_running c) c.running
   pub none_later : All (λ o. (o.core ≡ c.pass.core) × (o.number ≤ c.running.number)) (mine c.pass).operations
   pub ascending : Ascends 0 c.running.parts
+  pub blocks : length c.running.parts ≤ MAX_RECORD_BLOCKS
   pub within : (block : ℕ) → IsSome (image_in c.running.parts block) → block < c.sizes.blocks
   pub number : c.area.failed ≡ false → c.running.number ≡ c.area.end.number
   pub fits : c.area.failed ≡ false → c.running.handles ≢ 0 → fullness c.area.sizes c.area.tail c.area.end ≡ None
@@ -188,7 +189,7 @@ abbrev pub IsOneMore : Transaction → Transaction → Type 0
 IsOneMore old new = new ≡ record old { handles = old.handles + 1; follows = new.follows; parts = new.parts; room = None }
 
 -- An operation that a pass has entered joined a running transaction: whatever operations that kept, it keeps with this one behind them.
--- The blocks that it has more are blocks of the image.
+-- The blocks that it has more are blocks of the image, and it has no more than a record.
 pub record Joins (sizes : Numbers) (old new : Transaction) (before after : PassState) : Type 0 where
   pub operation : Operation
   pub entered : (mine after).operations ≡ (mine before).operations ++ operation ∷ []
@@ -196,6 +197,7 @@ pub record Joins (sizes : Numbers) (old new : Transaction) (before after : PassS
   pub number : operation.number ≡ old.number
   pub keeps : (operations : List Operation) → Keeps operations old → Keeps (operations ++ operation ∷ []) new
   pub ascending : Ascends 0 new.parts
+  pub blocks : length new.parts ≤ MAX_RECORD_BLOCKS
   pub within : (block : ℕ) → IsSome (image_in new.parts block) → IsSome (image_in old.parts block) ⊎ (block < sizes.blocks)
 
 -- On the way of a call that may be begun, blocks were taken that it may take, and there it can't be stopped.

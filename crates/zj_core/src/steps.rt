@@ -1,6 +1,6 @@
 //! The steps of a handle: it takes blocks, stores new contents, draws its ticket, and gives the blocks back.
 
-ghost use Rattle.std.specs.Prelude.{◌≡◌, ◌≢◌, ◌⊎◌, ◌^◌, ◌-◌, ◌<◌, ◌++◌, ◌∷◌, [], ℕ, None, Some, IfErr, IfNone, IfOk, IfSome, OnErr, OnOk, length, true, false};
+ghost use Rattle.std.specs.Prelude.{◌≡◌, ◌≢◌, ◌⊎◌, ◌^◌, ◌-◌, ◌<◌, ◌≤◌, ◌++◌, ◌∷◌, [], ℕ, None, Some, IfErr, IfNone, IfOk, IfSome, OnErr, OnOk, length, true, false};
 ghost use Rattle.std.specs.FinMap as finmap;
 ghost use Rattle.zj_block.specs.Lists.{content_under, count_left};
 ghost use Rattle.zj_inode.specs.Performs.{Performs};
@@ -9,6 +9,7 @@ ghost use Rattle.zj_history.specs.Operation.{Operation};
 ghost use Rattle.zj_turns.specs.Views.{Has, Hold};
 ghost use Rattle.zj_turns.specs.Passes.{IsActive, holds, left_of, mine, now_knowing};
 ghost use Rattle.zj_block.specs.Numbers.{zero_bounds};
+ghost use Rattle.zj_block.specs.declared.sizes.TheConstants.{MAX_RECORD_BLOCKS};
 ghost use Rattle.zj_tx.specs.Record.{Ascends};
 ghost use Rattle.zj_tx.specs.Running.{IsAdded, IsNoted, IsRoomCause};
 ghost use Rattle.zj_core.specs.Core.{IsOneMore, IsStopCause, IsTakeCause, Joins, NeedsNoMore, Performed, TakesNext};
@@ -205,6 +206,7 @@ fn enter(
     ensures draws { IfOk result (Draws cache.now pass.old pass.new written.now running.old.number) }
     ensures adds { IfOk result (λ ticket. IsAdded running.old running.new ticket written.now handle.now.follows) }
     ensures ascending { OnOk result (Ascends 0 running.new.parts) }
+    ensures blocks { OnOk result (length running.new.parts ≤ MAX_RECORD_BLOCKS) }
     ensures cause { IfErr result (IsRoomCause running.old written.now) }
     ensures pass { OnErr result (pass.new ≡ pass.old) }
     ensures running { OnErr result (running.new ≡ running.old) }

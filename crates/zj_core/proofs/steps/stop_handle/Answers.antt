@@ -35,4 +35,4 @@ pub returns-clause-adds : goal.returns-clause-adds
 returns-clause-adds c =
     joined c.args.cache.now c.args.pass.now c.take_all.new.pass c.enter.new.pass c.args.sizes.now c.take_all.new.handle.taken c.in_ok-reply.written c.args.handle.now.call c.in_ok-reply.reply c.args.running.now.number c.in_ok-ticket.ticket
     c.in_ok-reply.ensures.takes c.in_ok-reply.ensures.foot c.in_ok-reply.ensures.has c.in_ok-reply.ensures.root c.in_ok-reply.ensures.performs c.in_ok-ticket.ensures.draws
-    c.args.running.now c.enter.new.running refl c.sealed_is_frozen.ensures.more c.in_ok-ticket.ensures.adds c.in_ok-ticket.ensures.ascending
+    c.args.running.now c.enter.new.running refl c.sealed_is_frozen.ensures.more c.in_ok-ticket.ensures.adds c.in_ok-ticket.ensures.ascending c.in_ok-ticket.ensures.blocks
