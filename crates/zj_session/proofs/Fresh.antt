@@ -5,6 +5,7 @@ use Rattle.std.specs.FinMap as finmap
 use Rattle.std.proofs.lemmas.List.Elements.{All-nil}
 use Rattle.std.proofs.lemmas.Option.{slice_get-map}
 use Rattle.std.proofs.Math.Seq.{take-nil}
+use Rattle.zj_block.specs.declared.sizes.TheConstants.{MAX_RECORD_BLOCKS}
 use Rattle.zj_block.specs.Sizes.{Numbers}
 use Rattle.zj_history.specs.Operation.{Operation}
 use Rattle.zj_history.specs.State.{BlockState, after}
@@ -63,6 +64,7 @@ module _ {D : Type 0} (cache : CacheParameters) (sizes : Numbers) (i : ℕ) (c :
           (λ j. ((sym is_blank j).operations, sym fresh.running j)) (nothing_kept i sizes.cores c.area.end.number);
       none_later = subst (All (λ (o : Operation). (o.core ≡ c.pass.core) × (o.number ≤ c.running.number))) (ap (λ (k : Known). k.operations) (sym is_blank)) (All-nil (λ (o : Operation). (o.core ≡ c.pass.core) × (o.number ≤ c.running.number)));
       ascending = subst (λ (t : Transaction). Ascends 0 t.parts) (sym fresh.running) tt;
+      blocks = subst (λ (t : Transaction). length t.parts ≤ MAX_RECORD_BLOCKS) (sym fresh.running) (omega arith);
       within = λ block some. absurd (true≢false (sym some ∙ ap (λ (t : Transaction). is_some (image_in t.parts block)) fresh.running));
       number = λ _. ap (λ (t : Transaction). t.number) fresh.running;
       fits = λ _ some. absurd (some (ap (λ (t : Transaction). t.handles) fresh.running));

@@ -28,6 +28,7 @@ pub mod Roots
 pub mod Round
 pub mod Running
 pub mod Schedules
+pub mod Sealing
 pub mod Seen
 pub mod Serving
 pub mod Steps

@@ -13,7 +13,7 @@ use Rattle.zj_script.specs.declared.line.Line.{Line}
 use Rattle.zj_script.specs.declared.answer.Form.{Form}
 use Rattle.zj_script.specs.declared.answer.Form.TheVariants as forms
 use Rattle.zj_session.specs.Laws.{LogFitsFurther}
-use Rattle.zj_session.specs.Logging.{FitsLog, IsRightOfLog, SaysOfLog, Standing, failed_after, running_after, tail_at}
+use Rattle.zj_session.specs.Logging.{FitsLog, FitsRecord, IsRightOfLog, SaysOfLog, Standing, failed_after, running_after, tail_at}
 use Rattle.zj_session.specs.Played.{OpenHandle, Played, handle_after, has_ticket, tickets_in}
 use Rattle.zj_session.proofs.Lists.{at_end, fewer, kept_front}
 
@@ -22,17 +22,18 @@ and_so : {X : Type 0} (P Q : X → Type 0) (o : Option X) → ((x : X) → P x �
 and_so P Q None step holds = absurd holds
 and_so P Q (Some x) step holds = step x holds
 
--- what an answer says holds further in a longer history
-number_more : (history more : List Operation) (ticket number : ℕ) → IsSomeAnd (slice_get history ticket) (λ o. o.number ≡ number) → IsSomeAnd (slice_get (history ++ more) ticket) (λ o. o.number ≡ number)
-number_more history more ticket number is = by (slice_get history ticket) (λ o at. kept_front history more ticket o at) is
+-- what is so of an operation is so of it in a longer history
+there_more : (P : Operation → Type 0) (history more : List Operation) (ticket : ℕ) → IsSomeAnd (slice_get history ticket) P → IsSomeAnd (slice_get (history ++ more) ticket) P
+there_more P history more ticket is = by (slice_get history ticket) (λ o at. kept_front history more ticket o at) is
   where
-    by : (o : Option Operation) → ((x : Operation) → o ≡ Some x → slice_get (history ++ more) ticket ≡ Some x) → IsSomeAnd o (λ x. x.number ≡ number) → IsSomeAnd (slice_get (history ++ more) ticket) (λ x. x.number ≡ number)
+    by : (o : Option Operation) → ((x : Operation) → o ≡ Some x → slice_get (history ++ more) ticket ≡ Some x) → IsSomeAnd o P → IsSomeAnd (slice_get (history ++ more) ticket) P
     by None kept holds = absurd holds
-    by (Some x) kept holds = subst (λ o. IsSomeAnd o (λ y. y.number ≡ number)) (sym (kept x refl)) holds
+    by (Some x) kept holds = subst (λ o. IsSomeAnd o P) (sym (kept x refl)) holds
 
+-- what an answer says holds further
 says_more : (sizes : Numbers) (tail : Tail) (state : BlockState) (known history more : List Operation) (running : Writer) (failed : Bool) (handle : Option OpenHandle) (act : Act) (form : Form)
     → SaysOfLog sizes tail state known history running failed handle act form → SaysOfLog sizes tail state known (history ++ more) running failed handle act form
-says_more sizes tail state known history more running failed handle act (forms.Drew ticket reply) s = (s.0, number_more history more ticket running.number s.1)
+says_more sizes tail state known history more running failed handle act (forms.Drew ticket reply) s = (s.0, there_more (λ o. (o.number ≡ running.number) × FitsRecord (known ++ o ∷ []) running) history more ticket s.1)
 says_more sizes tail state known history more running failed handle act form s = s
 
 -- no line fits the history that was before

@@ -17,6 +17,7 @@ use Rattle.zj_layout.proofs.Follow.{none_some, some_is}
 use Rattle.zj_script.specs.declared.line.Line.{Line}
 use Rattle.zj_script.specs.declared.answer.Form.{Form}
 use Rattle.zj_script.specs.declared.answer.Form.TheVariants as forms
+use Rattle.zj_script.specs.declared.answer.SyncForm.TheVariants as syncs
 use Rattle.zj_area.specs.Journal.{AreaView, journal_of}
 use Rattle.zj_closure.specs.Found.{Journals, records_of, tail_of}
 use Rattle.zj_tx.specs.Frozen.{IsFrozen}
@@ -34,10 +35,16 @@ use Rattle.zj_session.specs.Played.{Played, is_on}
 use Rattle.zj_session.specs.Service.{IsServing}
 use Rattle.zj_session.proofs.Lists.{at_all, set_else, set_here}
 use Rattle.zj_session.proofs.LogNumbers.{commits_more, fails_more, finds_cores, last_running, one_in, own_of}
+use Rattle.zj_session.proofs.Sealing.{is_steady, of_cache, running_frozen, running_keeps}
 use Rattle.zj_session.proofs.Views.{HasMet, has_met, met_mine}
-use Rattle.zj_session.proofs.LogKeeps.{empty_from, keeps_more, logged_as, logged_further, or_none, or_true, records_else, records_here, rested, sealed_more}
+use Rattle.zj_session.proofs.LogKeeps.{empty_from, keeps_committed, keeps_failed, logged_as, logged_further, or_none, or_true, records_else, records_here, rested, sealed_more}
 
 -- ---- one line
+
+-- an answer of a failed commit is none of one that was committed
+fault_commits_none : (form : Form) → is_fault form ≡ true → is_committed form ≡ false
+fault_commits_none (forms.Sync (syncs.Fault device)) fault = refl
+fault_commits_none form fault = absurd (true≢false (sym fault))
 
 -- A line on the core at a place, which went on, with what was so before: the cores serve calls, they have logged what they did, and stand
 -- as lines tell. The laws of records are at hand.
@@ -119,6 +126,11 @@ module _ {D : Type 0} (case : LogCase D) where
         let b = commits_more played line form i in
         let d : cond {A = ℕ} (is_on i line.core && is_committed form) 1 0 ≡ 0 = ap (λ (t : Bool). cond {A = ℕ} (t && is_committed form) 1 0) not_here in
         omega (arith, a, b, d);
+    behind = λ failed.
+        let a = was.behind failed in
+        let b = commits_more played line form i in
+        let d : cond {A = ℕ} (is_on i line.core && is_committed form) 1 0 ≡ 0 = ap (λ (t : Bool). cond {A = ℕ} (t && is_committed form) 1 0) not_here in
+        omega (arith, a, b, d);
   }
     where
       was : RunsAsTold standing played i c
@@ -148,6 +160,11 @@ module _ {D : Type 0} (case : LogCase D) where
           failed = ap (λ (a : AreaView D). a.failed) area ∙ was.failed ∙ ap (λ b. standing.failed at || b) (sym (or_none (fails_in played at)) ∙ ap (λ b. fails_in played at || b) (sym no_fault) ∙ sym (fails_here form));
           number = λ sound.
               let a = was.number (sym (ap (λ (a : AreaView D). a.failed) area) ∙ sound) in
+              let b = commits_here form in
+              let d : cond {A = ℕ} (is_committed form) 1 0 ≡ 0 = ap (λ (t : Bool). cond {A = ℕ} t 1 0) no_commit in
+              omega (arith, a, b, d, number);
+          behind = λ failed.
+              let a = was.behind (sym (ap (λ (a : AreaView D). a.failed) area) ∙ failed) in
               let b = commits_here form in
               let d : cond {A = ℕ} (is_committed form) 1 0 ≡ 0 = ap (λ (t : Bool). cond {A = ℕ} t 1 0) no_commit in
               omega (arith, a, b, d, number);
@@ -183,10 +200,10 @@ module _ {D : Type 0} (case : LogCase D) where
   -- ---- the running transaction
 
   pub was_of : IsOf cache core
-  was_of = at_all (λ (c : CoreState D). IsOf cache c) old serving.service.together.of at core at_place
+  was_of = of_cache sealed_frozen cache old history serving.service at core at_place
 
   pub steady : IsSteady core
-  steady = at_all IsSteady old serving.service.steady at core at_place
+  steady = is_steady sealed_frozen cache old history serving.service at core at_place
 
   of_core : core.pass.core ≡ at
   of_core = serving.service.numbered at core at_place
@@ -213,13 +230,8 @@ module _ {D : Type 0} (case : LogCase D) where
   pub own_operations : operations_on at history ≡ (mine core.pass).operations
   own_operations = serving.service.has.operations at core at_place
 
-  is_running : operations_running core ≡ operations_of history running
-  is_running = ap (λ (l : List Operation). operations_of l (record { core = core.pass.core; number = core.running.number })) (sym own_operations)
-      ∙ ap (λ c. operations_of (operations_on at history) (record { core = c; number = core.running.number })) of_core
-      ∙ own_of at core.running.number history
-
   keeps : Keeps (operations_of history running) core.running
-  keeps = subst (λ (l : List Operation). Keeps l core.running) is_running steady.runs.keeps
+  keeps = running_keeps sealed_frozen cache old history serving.service at core at_place
 
   pub none_running : core.running.handles ≡ 0 → operations_of history running ≡ []
   none_running none = empty_from (operations_of history running) (sym keeps.count ∙ none)
@@ -232,9 +244,7 @@ module _ {D : Type 0} (case : LogCase D) where
 
   -- what it is sealed as is its frozen record
   pub frozen_now : (r : Record) → IsSealed core.running r → IsFrozen history running r
-  frozen_now r is = sealed_frozen history running core.running r (steady.runs.core ∙ of_core) refl
-      (subst (λ n. FindsCores n history) (serving.service.as_sizes ∙ ap (λ (n : Numbers). n.cores) was_of.sizes ∙ sym steady.runs.cores) (finds_cores cache.start cache.cores history serving.service.has.legal.legal serving.service.has.legal.cores_fit))
-      keeps is
+  frozen_now = running_frozen sealed_frozen cache old history serving.service at core at_place
 
   -- where it has an operation, its number is the last of its core
   last_is : core.running.handles ≢ 0 → last_number at history ≡ Some core.running.number
@@ -307,7 +317,7 @@ module _ {D : Type 0} (case : LogCase D) where
 
   pub committed : (number : ℕ) → Commits view met gone → later ≡ history → Logs (forms.Committed number)
   committed number c same = sealed_then c.sealed_as c.seals same
-      (keeps_more view (slice_index from at) met gone c.sealed_as records c.seals log.keeps (λ sound. c.at_rest records (rested view (slice_index from at) met gone c.sealed_as records c.seals log.keeps)) (λ sound. c.end))
+      (keeps_committed view (slice_index from at) met gone c.sealed_as records c.seals log.keeps c.sound c.calls (c.at_rest records (rested view (slice_index from at) met gone c.sealed_as records c.seals log.keeps)) c.end)
       (forms.Committed number)
       (record {
         failed = c.sound ∙ sym c.seals.sound ∙ sym failed_told ∙ ap (λ b. standing.failed at || b) (sym (or_none (fails_in played at)) ∙ sym (fails_here (forms.Committed number)));
@@ -316,13 +326,20 @@ module _ {D : Type 0} (case : LogCase D) where
             let b = commits_here (forms.Committed number) in
             let d = ap (λ (x : CoreState D). x.running.number) c.seals.next in
             omega (arith, a, b, d);
+        behind = λ failed. absurd (true≢false (sym failed ∙ c.sound));
       })
 
   pub failed_to : (form : Form) → is_fault form ≡ true → FailsToCommit view met gone → later ≡ history → Logs form
   failed_to form fault f same = sealed_then f.sealed_as f.seals same
-      (keeps_more view (slice_index from at) met gone f.sealed_as records f.seals log.keeps (λ sound. absurd (true≢false (sym f.failed ∙ sound))) (λ sound. absurd (true≢false (sym f.failed ∙ sound))))
+      (keeps_failed view (slice_index from at) met gone f.sealed_as records f.seals log.keeps f.failed)
       form
       (record {
         failed = f.failed ∙ sym (ap (λ b. standing.failed at || b) (fails_here form ∙ ap (λ b. fails_in played at || b) fault ∙ or_true (fails_in played at)) ∙ or_true (standing.failed at));
         number = λ sound. absurd (true≢false (sym f.failed ∙ sound));
+        behind = λ failed.
+            let a = (stand at core at_place).number f.seals.sound in
+            let b = commits_here form in
+            let d = ap (λ (x : CoreState D). x.running.number) f.seals.next in
+            let e : cond {A = ℕ} (is_committed form) 1 0 ≡ 0 = ap (λ (t : Bool). cond {A = ℕ} t 1 0) (fault_commits_none form fault) in
+            omega (arith, a, b, d, e);
       })

@@ -1,5 +1,5 @@
 -- What a core has logged goes on where its journal keeps one record more, and where a history has one operation more.
-use Rattle.std.proofs.Common.{◌≡◌, ◌≢◌, ◌⊎◌, inl, ⊎_elim, ℕ, suc, ◌+◌, ◌<◌, ◌||◌, Bool, true, false, List, [], ◌∷◌, ◌++◌, length, get_or, Some, slice_get, slice_set, refl, sym, ap, ◌∙◌, subst, arith}
+use Rattle.std.proofs.Common.{◌≡◌, ◌≢◌, ◌⊎◌, inl, inr, ⊎_elim, ℕ, suc, ◌+◌, ◌*◌, ◌<◌, ◌≤◌, ◌||◌, Bool, true, false, true≢false, cond, List, [], ◌∷◌, ◌++◌, length, take, get_or, Some, slice_get, slice_set, refl, sym, ap, ◌∙◌, subst, arith}
 use Rattle.std.specs.Option.{unwrap_or}
 use Rattle.std.proofs.lemmas.Bool.{cases_eq, cases_lt}
 use Rattle.std.proofs.lemmas.List.{length-append, take-append-le, take_all}
@@ -8,21 +8,22 @@ use Rattle.std.proofs.Math.Seq.{take-append_seam}
 use Rattle.zj_block.specs.Sizes.{Numbers}
 use Rattle.zj_block.specs.declared.numbers.Tail.{Tail}
 use Rattle.zj_block.specs.declared.numbers.Writer.{Writer}
-use Rattle.zj_dev.specs.Disk.{DiskView, EachImageSince}
+use Rattle.zj_dev.specs.Disk.{DiskView}
 use Rattle.zj_history.specs.Operation.{Operation}
 use Rattle.zj_history.specs.Transactions.{is_of}
 use Rattle.zj_layout.proofs.Follow.{none_some, some_is}
-use Rattle.zj_area.specs.Journal.{AreaView, IsAtRest, journal_of}
+use Rattle.zj_area.specs.Journal.{AreaView, IsAtRest, IsJournal, journal_of}
+use Rattle.zj_area.proofs.Commits.{of_settled}
 use Rattle.zj_area.specs.Ring.{Holds, behind}
 use Rattle.zj_closure.specs.Found.{Journals, records_of, tail_of}
 use Rattle.zj_tx.specs.Frozen.{IsFrozen}
 use Rattle.zj_tx.specs.Laws.{FrozenStays, OneRecord}
 use Rattle.zj_tx.specs.Record.{Accepts, IsRecord, Record}
 use Rattle.zj_turns.specs.Passes.{holds}
-use Rattle.zj_core.specs.Committing.{Seals}
+use Rattle.zj_core.specs.Committing.{Seals, calls_of_commit}
 use Rattle.zj_core.specs.Core.{CoreState}
-use Rattle.zj_session.specs.Crashes.{HasLogged, HoldsFirst, IsNextNumber, KeepsRecords}
-use Rattle.zj_session.specs.Logging.{AreSealed}
+use Rattle.zj_session.specs.Crashes.{HasCommitted, HasLogged, HoldsFirst, IsNextNumber, KeepsRecords}
+use Rattle.zj_session.specs.Logging.{AreSealed, end_behind}
 use Rattle.zj_session.proofs.Lists.{at_end, set_else, set_here}
 use Rattle.zj_session.proofs.LogNumbers.{all_one, end_more, last_else, last_own, of_other_core, of_other_number}
 
@@ -93,37 +94,110 @@ module _ {D : Type 0} (view : D → DiskView) (from : ℕ) (old new : CoreState 
   pub rested : IsAtRest (journal_of view old.area) records
   rested = keeps.at_rest seals.sound
 
-  images_then : EachImageSince from (view new.area.device) (λ image. (count : ℕ) × HoldsFirst old.area.sizes old.area.core old.area.tail all count image)
-  images_then moment image since now left = ⊎_elim
-      (λ earlier.
-      let first = keeps.images moment image since (omega (arith, earlier)) (sym (seals.continues.images moment image earlier) ∙ left) in
-      (first.0, first_more old.area.sizes old.area.core old.area.tail records r first.0 image first.1))
-      (λ later. ⊎_elim
-      (λ before. (
-        length records,
-        record {
-          within = let long = length-append records (r ∷ []) in omega (arith, long);
-          end = old.area.end;
-          holds = subst (λ rs. Holds old.area.sizes old.area.core image old.area.tail rs old.area.end) (sym (take-append_seam records (r ∷ []))) before;
-        },
-      ))
-      (λ more. (
-        length all,
-        record {
-          within = omega arith;
-          end = behind old.area.sizes old.area.end r;
-          holds = subst (λ rs. Holds old.area.sizes old.area.core image old.area.tail rs (behind old.area.sizes old.area.end r)) (sym (take_all (length all) all (omega arith))) more;
-        },
-      ))
-      (seals.images records rested moment image later now left))
-      (cases_lt moment (view old.area.device).calls)
+  -- as many were committed before
+  before : length records ≡ keeps.commits
+  before = let many = keeps.sealed in let none : cond {A = ℕ} old.area.failed 1 0 ≡ 0 = ap (λ (b : Bool). cond {A = ℕ} b 1 0) seals.sound in omega (arith, many, none)
 
-  pub keeps_more : (new.area.failed ≡ false → IsAtRest (journal_of view new.area) all) → (new.area.failed ≡ false → new.area.end ≡ behind old.area.sizes old.area.end r) → KeepsRecords from (journal_of view new.area) all
-  keeps_more at_rest end = subst (λ (a : AreaView D). KeepsRecords from (journal_of view a) all) (sym seals.area) (record {
-    images = images_then;
-    at_rest = λ sound. subst (λ (a : AreaView D). IsAtRest (journal_of view a) all) seals.area (at_rest sound);
-    end = λ sound. end sound ∙ ap (λ e. behind old.area.sizes e r) (keeps.end seals.sound) ∙ sym (end_more old.area.sizes old.area.tail records r);
-  })
+  after : length all ≡ keeps.commits + 1
+  after = let long = length-append records (r ∷ []) in let many = before in omega (arith, long, many)
+
+  calls_before : (view old.area.device).calls ≡ from + calls_of_commit * keeps.commits
+  calls_before = keeps.only seals.sound
+
+  -- ---- an image of some moment holds the first of all, so many
+
+  abbrev Holding : ℕ → List ℕ → Type 0
+  Holding count image = HoldsFirst old.area.sizes old.area.core old.area.tail all count image
+
+  first_before : (image : List ℕ) → Holds old.area.sizes old.area.core image old.area.tail records old.area.end → Holding keeps.commits image
+  first_before image holds = record {
+    within = let many = after in omega (arith, many);
+    end = old.area.end;
+    holds = subst (λ rs. Holds old.area.sizes old.area.core image old.area.tail rs old.area.end) (sym (ap (λ n. take n all) (sym before) ∙ take-append_seam records (r ∷ []))) holds;
+  }
+
+  first_all : (image : List ℕ) (end : Tail) → Holds old.area.sizes old.area.core image old.area.tail all end → Holding (keeps.commits + 1) image
+  first_all image end holds = record {
+    within = let many = after in omega (arith, many);
+    end = end;
+    holds = subst (λ rs. Holds old.area.sizes old.area.core image old.area.tail rs end) (sym (take_all (keeps.commits + 1) all (let many = after in omega (arith, many)))) holds;
+  }
+
+  -- from its beginning to its end
+  during : (moment : ℕ) (image : List ℕ) → (view old.area.device).calls ≤ moment → moment ≤ (view new.area.device).calls → (view new.area.device).may_leave moment image ≡ true
+      → (count : ℕ) × Holding count image × (keeps.commits ≤ count)
+  during moment image later now left = ⊎_elim
+      (λ holds. (keeps.commits, first_before image holds, omega arith))
+      (λ more. (keeps.commits + 1, first_all image (behind old.area.sizes old.area.end r) more, omega arith))
+      (seals.images records rested moment image later now left)
+
+  -- where so many are committed then, and those of the moments since the commit began are so
+  module _ (commits : ℕ) (since : (moment : ℕ) (image : List ℕ) → (view old.area.device).calls ≤ moment → moment ≤ (view new.area.device).calls → (view new.area.device).may_leave moment image ≡ true
+      → (count : ℕ) × Holding count image × HasCommitted from commits moment count) where
+    -- up to there the last one has not made its calls
+    images_then : (commits ≡ keeps.commits) ⊎ (commits ≡ keeps.commits + 1) → (moment : ℕ) (image : List ℕ) → from ≤ moment → moment ≤ (view new.area.device).calls → (view new.area.device).may_leave moment image ≡ true
+        → (count : ℕ) × Holding count image × HasCommitted from commits moment count
+    images_then as_many moment image low now left = ⊎_elim
+        (λ earlier.
+        let first = keeps.images moment image low (omega (arith, earlier)) (sym (seals.continues.images moment image earlier) ∙ left) in (
+          first.0,
+          first_more old.area.sizes old.area.core old.area.tail records r first.0 image first.1,
+          λ n most made. first.2 n (let begun = calls_before in ⊎_elim (λ same. omega (arith, most, same)) (λ one. omega (arith, most, one, made, earlier, begun)) as_many) made,
+        ))
+        (λ later. since moment image later now left)
+        (cases_lt moment (view old.area.device).calls)
+
+  -- ---- the commit is answered, or fails
+
+  pub keeps_committed : (new.area.failed ≡ false) → (view new.area.device).calls ≡ (view old.area.device).calls + calls_of_commit → IsAtRest (journal_of view new.area) all → new.area.end ≡ behind old.area.sizes old.area.end r
+      → KeepsRecords from (journal_of view new.area) all
+  keeps_committed sound calls at_rest end = record {
+    commits = keeps.commits + 1;
+    sealed = let many = after in let none : cond {A = ℕ} new.area.failed 1 0 ≡ 0 = ap (λ (b : Bool). cond {A = ℕ} b 1 0) sound in omega (arith, many, none);
+    images = subst (λ (x : AreaView D). (moment : ℕ) (image : List ℕ) → from ≤ moment → moment ≤ (view new.area.device).calls → (view new.area.device).may_leave moment image ≡ true
+        → (count : ℕ) × HoldsFirst x.sizes x.core x.tail all count image × HasCommitted from (keeps.commits + 1) moment count) (sym seals.area) (images_then (keeps.commits + 1) since (inr refl));
+    made = let begun = calls_before in omega (arith, calls, begun);
+    only = λ _. let begun = calls_before in omega (arith, calls, begun);
+    at_rest = λ _. at_rest;
+    end = λ _. end ∙ ap (λ e. behind old.area.sizes e r) (keeps.end seals.sound) ∙ sym (end_more old.area.sizes old.area.tail records r)
+        ∙ ap (λ (x : AreaView D). end_behind x.sizes x.tail all) (sym seals.area);
+  }
+    where
+      since : (moment : ℕ) (image : List ℕ) → (view old.area.device).calls ≤ moment → moment ≤ (view new.area.device).calls → (view new.area.device).may_leave moment image ≡ true
+          → (count : ℕ) × Holding count image × HasCommitted from (keeps.commits + 1) moment count
+      since moment image later now left = ⊎_elim
+          (λ last. (
+            keeps.commits + 1,
+            first_all image new.area.end (subst (λ (x : AreaView D). Holds x.sizes x.core image x.tail all new.area.end) seals.area
+                (of_settled (λ bytes. IsJournal new.area.sizes new.area.core bytes new.area.tail all new.area.end) (view new.area.device) at_rest.settled at_rest.journal image
+                (subst (λ m. (view new.area.device).may_leave m image ≡ true) last left)).holds),
+            λ n most made. most,
+          ))
+          (λ middle.
+          let so = during moment image later now left in (
+            so.0,
+            so.1,
+            λ n most made. let begun = calls_before in let least = so.2 in ⊎_elim
+                (λ few. omega (arith, few, least))
+                (λ many. absurd (middle (omega (arith, many, most, made, now, calls, begun))))
+                (cases_lt n (keeps.commits + 1)),
+          ))
+          (cases_eq moment (view new.area.device).calls)
+
+  pub keeps_failed : (new.area.failed ≡ true) → KeepsRecords from (journal_of view new.area) all
+  keeps_failed failed = record {
+    commits = keeps.commits;
+    sealed = let many = after in let one : cond {A = ℕ} new.area.failed 1 0 ≡ 1 = ap (λ (b : Bool). cond {A = ℕ} b 1 0) failed in omega (arith, many, one);
+    images = subst (λ (x : AreaView D). (moment : ℕ) (image : List ℕ) → from ≤ moment → moment ≤ (view new.area.device).calls → (view new.area.device).may_leave moment image ≡ true
+        → (count : ℕ) × HoldsFirst x.sizes x.core x.tail all count image × HasCommitted from keeps.commits moment count) (sym seals.area)
+        (images_then keeps.commits
+        (λ moment image later now left. let so = during moment image later now left in (so.0, so.1, λ n most made. let least = so.2 in omega (arith, most, least)))
+        (inl refl));
+    made = let begun = calls_before in let on = seals.continues.calls in omega (arith, begun, on);
+    only = λ sound. absurd (true≢false (sym failed ∙ sound));
+    at_rest = λ sound. absurd (true≢false (sym failed ∙ sound));
+    end = λ sound. absurd (true≢false (sym failed ∙ sound));
+  }
 
 -- ---- what a core has logged
 

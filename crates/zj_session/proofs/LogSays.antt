@@ -31,7 +31,7 @@ use Rattle.zj_session.specs.Logging.{AreSealed, IsFull, IsOverfull, IsRightOfLog
 use Rattle.zj_session.specs.Played.{OpenHandle, begins_handle, call_made, contents_in, handle_after, is_in, is_out_of_order}
 use Rattle.zj_session.proofs.Contents.{same_contents}
 use Rattle.zj_session.proofs.Growing.{done_taken}
-use Rattle.zj_session.proofs.Round.{listed}
+use Rattle.zj_session.proofs.Sealing.{is_sealed, sealed_as}
 use Rattle.zj_session.proofs.LogKeeps.{rested, same_sealed}
 use Rattle.zj_session.proofs.LogGrows.{LogCase, failed, failed_told, frozen_now, has, log, met, no_handles, none_running, records, running_told, same_mine, steady, told, was_of}
 
@@ -153,21 +153,6 @@ module _ {D : Type 0} (case : LogCase D) where
 
   -- ---- a transaction that would have too many blocks
 
-  -- what it is sealed as now
-  bounds_now : (bounds : List ℕ) × (length bounds ≡ core.running.cores) × ((i n : ℕ) → slice_get bounds i ≡ Some n → n ≡ recorded_bound core.running.core core.running.follows i)
-  bounds_now = listed (λ i n. n ≡ recorded_bound core.running.core core.running.follows i) core.running.cores (λ i low. (recorded_bound core.running.core core.running.follows i, refl))
-
-  abbrev sealed_now : Record
-  sealed_now = record_of core.running.number bounds_now.0 core.running.parts
-
-  is_sealed : IsSealed core.running sealed_now
-  is_sealed = record {
-    number = refl;
-    cores = bounds_now.1;
-    bounds = λ i low. bounds_now.2 i (get_or bounds_now.0 i 0) (slice_get-get_or bounds_now.0 i 0 (let many = bounds_now.1 in omega (arith, low, many)));
-    parts = refl;
-  }
-
   module _ (p : PassState) (took : TakesMore cache (met case).pass p) (call : Call) (have more : ℕ) (lacks : HasNoRoom core.sizes p core.running call have more) (read : IsWholly (mine p)) where
     -- what was taken on the way is as the history left it
     left_so : (b : ℕ) (h : Hold) → finmap.get (mine p).held b ≡ Some h → IsLoadedAfter cache.start history b h
@@ -185,9 +170,9 @@ module _ {D : Type 0} (case : LogCase D) where
 
     pub overfull : core.area.failed ≡ false → (act : Act) → call_made act handle ≡ Some call → IsOverfull cache.sizes (after cache.start history) history (told case) handle act have more
     overfull sound act made = record {
-      sealed_now = sealed_now;
+      sealed_now = sealed_as core.running;
       ascending = (steady case).runs.ascending;
-      frozen = subst (λ t. IsFrozen history t sealed_now) (running_told case sound) (frozen_now case sealed_now is_sealed);
+      frozen = subst (λ t. IsFrozen history t (sealed_as core.running)) (running_told case sound) (frozen_now case (sealed_as core.running) (is_sealed core.running));
       have_is = lacks.have_is;
       call = call;
       call_is = made;

@@ -44,7 +44,7 @@ module _ {D : Type 0} (view : D → DiskView) (cores : List (CoreState D)) where
 
   pub stand_rest : (standing : Standing) (played : List Played) → StandAsTold standing played cores → StandAsTold standing played (map resting cores)
   stand_rest standing played stand = each_rest cores (λ i r. RunsAsTold standing played i r)
-      (λ i c there. let runs = stand i c there in by_begun c (λ r. RunsAsTold standing played i r) (λ is. runs) (λ call is. record { failed = runs.failed; number = runs.number }))
+      (λ i c there. let runs = stand i c there in by_begun c (λ r. RunsAsTold standing played i r) (λ is. runs) (λ call is. record { failed = runs.failed; number = runs.number; behind = runs.behind }))
 
   pub rose_rest : (first : List (CoreState D)) (played : List Played) → FaultsRose view first cores played → FaultsRose view first (map resting cores) played
   rose_rest first played rose i a r at there fails = each_rest cores (λ i r. slice_get first i ≡ Some a → fails_in played i ≡ true → Rose (view a.area.device).faults (view r.area.device).faults)

@@ -1,6 +1,7 @@
 -- The journals of cores go on to keep what their cores sealed, and what an answer says of the transactions is right.
 use Rattle.std.proofs.Common.{◌≡◌, ◌≢◌, ℕ, true, false, cond, List, [], ◌∷◌, ◌++◌, length, Option, Some, None, IsSome, IsSomeAnd, slice_get, append-nil, refl, sym, ap, ◌∙◌, subst}
 use Rattle.std.specs.FinMap as finmap
+use Rattle.zj_block.specs.declared.numbers.Writer.{Writer}
 use Rattle.zj_history.specs.Operation.{Operation}
 use Rattle.zj_history.specs.State.{after}
 use Rattle.zj_history.specs.Transactions.{operations_of}
@@ -23,9 +24,10 @@ use Rattle.zj_core.proofs.Knowing.{mine_is, mine_now}
 use Rattle.zj_session.specs.Answering.{Does, DoesIdle, DoesOpen, IsUnbegun}
 use Rattle.zj_session.specs.Crashes.{AreLogged, StandAsTold}
 use Rattle.zj_session.specs.Laws.{GrowsWith, LogsAreRight}
-use Rattle.zj_session.specs.Logging.{IsRightOfLog, failed_after, is_committed, is_fault, running_after, tail_at}
+use Rattle.zj_session.specs.Logging.{FitsRecord, IsRightOfLog, failed_after, is_committed, is_fault, running_after, tail_at}
 use Rattle.zj_session.specs.Played.{OpenHandle, handle_after, has_ticket, is_out_of_order}
 use Rattle.zj_session.specs.Service.{HasHistory, IsService}
+use Rattle.zj_session.proofs.Sealing.{fits_record}
 use Rattle.zj_session.proofs.Lists.{at_all, at_seam, mapped_none, mapped_some}
 use Rattle.zj_session.proofs.LogNumbers.{is_last_on}
 use Rattle.zj_session.proofs.LogKeeps.{empty_from, one_from}
@@ -35,7 +37,7 @@ use Rattle.zj_session.proofs.LogSays.{IsWholly, Right, Says, handle, middle_read
 -- ---- by acts and answers
 
 module _ {D : Type 0} (case : LogCase D) where
-  open case use {view, cache, history, later, at, core, gone, serving, at_place}
+  open case use {sealed_frozen, view, cache, history, later, at, core, gone, serving, at_place}
 
   abbrev Out : Act → Form → Type 0
   Out act form = Logs case form × Right case act form
@@ -80,11 +82,14 @@ module _ {D : Type 0} (case : LogCase D) where
     pub drawn : gone.area ≡ core.area → gone.sizes ≡ core.sizes → gone.running.number ≡ core.running.number → Logs case (forms.Drew ticket reply)
     drawn area sizes number = drew case (forms.Drew ticket reply) refl refl added.0 later_is last_added.0 added_number area sizes number
 
-    pub drawn_says : (act : Act) → core.area.failed ≡ false → Says case act (forms.Drew ticket reply)
-    drawn_says act sound = (
+    pub drawn_says : (act : Act) → core.area.failed ≡ false → gone.running.number ≡ core.running.number → FitsRecord later (record { core = at; number = gone.running.number }) → Says case act (forms.Drew ticket reply)
+    drawn_says act sound number fits = (
       sound_told case sound,
-      subst (λ x. IsSomeAnd x (λ (o : Operation). o.number ≡ (told case).number))
-          (sym (ap (slice_get later) ticket_is ∙ ap (λ l. slice_get l (length history)) later_is ∙ at_seam history added.0)) (added_number ∙ number_told case sound),
+      subst (λ x. IsSomeAnd x (λ (o : Operation). (o.number ≡ (told case).number) × FitsRecord (history ++ o ∷ []) (told case)))
+          (sym (ap (slice_get later) ticket_is ∙ ap (λ l. slice_get l (length history)) later_is ∙ at_seam history added.0)) (
+            added_number ∙ number_told case sound,
+            subst (λ (x : List Operation × Writer). FitsRecord x.0 x.1) (λ i. (later_is i, (ap (λ n. record { core = at; number = n }) number ∙ running_told case sound) i)) fits,
+          ),
     )
 
   unbegun : (act : Act) (form : Form) → IsUnbegun (met case) form → gone ≡ met case → GrowsWith history later form → Out act form
@@ -95,6 +100,9 @@ module _ {D : Type 0} (case : LogCase D) where
   module _ (now : IsService cache (new case) later) where
     gone_read : IsWholly (mine gone.pass)
     gone_read b h there = (at_all IsSteady (new case) now.steady at (next case) (next_there case)).read b h (ap (λ (k : Known). finmap.get k.held b) (mine_now core.pass (mine gone.pass)) ∙ there)
+
+    fits : FitsRecord later (record { core = at; number = gone.running.number })
+    fits = fits_record sealed_frozen cache (new case) later now at (next case) (next_there case)
 
     -- no handle is open
     module _ (none : core.begun ≡ None) where
@@ -107,7 +115,7 @@ module _ {D : Type 0} (case : LogCase D) where
       idle : (act : Act) (form : Form) → DoesIdle view cache (met case) gone act form → GrowsWith history later form → Out act form
       idle (acts.Call call) (forms.Drew ticket reply) d grows = (
         drawn now.has ticket reply call d.1 grows (ap (λ (c : CoreState D). c.area) d.3) (ap (λ (c : CoreState D). c.sizes) d.3) (ap (λ (t : Transaction). t.number) d.2),
-        right_begun case (acts.Call call) (forms.Drew ticket reply) d.0 (drawn_says now.has ticket reply call d.1 grows (acts.Call call) d.0.sound),
+        right_begun case (acts.Call call) (forms.Drew ticket reply) d.0 (drawn_says now.has ticket reply call d.1 grows (acts.Call call) d.0.sound (ap (λ (t : Transaction). t.number) d.2) fits),
       )
       idle (acts.Call call) (forms.Busy block holder) d grows = (calm (forms.Busy block holder) refl refl refl grows (same_as (met case) d.1), right_begun case (acts.Call call) (forms.Busy block holder) d.0.may tt)
       idle (acts.Call call) (forms.TxFull have more) d grows = (
@@ -155,7 +163,7 @@ module _ {D : Type 0} (case : LogCase D) where
       open_does acts.Take (forms.Busy block holder) d grows = (calm (forms.Busy block holder) refl refl refl grows (same_as (met case) d.1), right_other case acts.Take (forms.Busy block holder) refl refl tt)
       open_does acts.Stop (forms.Drew ticket reply) d grows = (
         drawn now.has ticket reply call d.0 grows (ap (λ (c : CoreState D). c.area) d.2) (ap (λ (c : CoreState D). c.sizes) d.2) (ap (λ (t : Transaction). t.number) d.1),
-        right_other case acts.Stop (forms.Drew ticket reply) refl refl (drawn_says now.has ticket reply call d.0 grows acts.Stop sound),
+        right_other case acts.Stop (forms.Drew ticket reply) refl refl (drawn_says now.has ticket reply call d.0 grows acts.Stop sound (ap (λ (t : Transaction). t.number) d.1) fits),
       )
       open_does acts.Stop (forms.Busy block holder) d grows = (calm (forms.Busy block holder) refl refl refl grows (same_as (record (met case) { pass = gone.pass }) d.3), right_other case acts.Stop (forms.Busy block holder) refl refl tt)
       open_does acts.Stop (forms.TxFull have more) d grows = (

@@ -1,5 +1,5 @@
 -- What was done before the first schedule: nothing, over journals that are at rest with no record.
-use Rattle.std.proofs.Common.{◌≡◌, ℕ, ◌+◌, ◌<◌, ◌≤◌, true, false, List, [], ◌∷◌, length, map, IfSome, option_map, get_or, Option, Some, None, slice_get, slice_index, slice_index_or, refl, sym, ap, ◌∙◌, subst, arith, length-append}
+use Rattle.std.proofs.Common.{◌≡◌, ℕ, ◌+◌, ◌<◌, ◌≤◌, Bool, true, false, true≢false, cond, List, [], ◌∷◌, length, map, IfSome, option_map, get_or, Option, Some, None, slice_get, slice_index, slice_index_or, refl, sym, ap, ◌∙◌, subst, arith, length-append}
 use Rattle.std.proofs.lemmas.List.{length-map}
 use Rattle.std.proofs.lemmas.Option.{get_or_from_slice_get, slice_get-map}
 use Rattle.zj_area.specs.Journal.{AreaView, IsJournal, journal_of, IsAtRest as IsJournalAtRest}
@@ -63,9 +63,16 @@ module _ {D : Type 0} (view : D → DiskView) (cache : CacheParameters) (sizes :
     number_is : c.running.number ≡ c.area.tail.number
     number_is = ap (λ (t : Transaction). t.number) (fresh i c at).running ∙ ap (λ (t : Tail). t.number) rests.1
 
+    sound : c.area.failed ≡ false
+    sound = (own_at cores sizes own i c at).2.sound
+
     keeps : KeepsRecords (view c.area.device).calls (journal_of view c.area) []
     keeps = record {
-      images = λ moment image low high may. (0, record { within = omega arith; end = c.area.end; holds = held image (subst (λ m. (view c.area.device).may_leave m image ≡ true) (let now : moment ≡ (view c.area.device).calls = omega arith in now) may) });
+      commits = 0;
+      sealed = let none : cond {A = ℕ} c.area.failed 1 0 ≡ 0 = ap (λ (b : Bool). cond {A = ℕ} b 1 0) sound in omega (arith, none);
+      images = λ moment image low high may. (0, record { within = omega arith; end = c.area.end; holds = held image (subst (λ m. (view c.area.device).may_leave m image ≡ true) (let now : moment ≡ (view c.area.device).calls = omega arith in now) may) }, λ n none made. none);
+      made = omega arith;
+      only = λ _. omega arith;
       at_rest = λ _. rests.0;
       end = λ _. rests.1;
     }
@@ -91,8 +98,9 @@ module _ {D : Type 0} (view : D → DiskView) (cache : CacheParameters) (sizes :
 
   pub fresh_stand : StandAsTold (past_of view areas).standing [] cores
   fresh_stand i c at = record {
-    failed = (own_at cores sizes own i c at).2.sound;
+    failed = sound i c at;
     number = λ _. let is = number_is i c at in let tail = ap (λ (t : Tail). t.number) (tail_is i c at) in omega arith;
+    behind = λ failed. absurd (true≢false (sym failed ∙ sound i c at));
   }
 
   pub fresh_past : IsService cache cores [] → HasPast view (record { cache = cache; cores = cores }) (past_of view areas)

@@ -84,6 +84,7 @@ module _ {D : Type 0} (c : CoreState D) where
         keeps = subst (λ operations. Keeps (operations_of operations (record { core = c.pass.core; number = c.running.number })) c.running) same steady.runs.keeps;
         none_later = subst (All (λ o. (o.core ≡ c.pass.core) × (o.number ≤ c.running.number))) same steady.runs.none_later;
         ascending = steady.runs.ascending;
+        blocks = steady.runs.blocks;
         within = steady.runs.within;
         number = steady.runs.number;
         fits = steady.runs.fits;

@@ -1,10 +1,10 @@
 -- What the journals of cores keep, at each moment, of the transactions that their cores sealed; and what recovery makes of a crash.
-use Rattle.std.specs.Prelude.{◌≡◌, ◌⊎◌, ℕ, ◌+◌, ◌≤◌, ◌<◌, false, List, ◌∷◌, length, take, Option, Some, None, slice_get, slice_index}
+use Rattle.std.specs.Prelude.{◌≡◌, ◌⊎◌, ℕ, ◌+◌, ◌*◌, ◌≤◌, ◌<◌, true, false, cond, List, ◌∷◌, length, take, Option, Some, None, slice_get, slice_index}
 use Rattle.zj_block.specs.Sizes.{Numbers}
 use Rattle.zj_block.specs.declared.numbers.Tail.{Tail}
 use Rattle.zj_block.specs.declared.numbers.Writer.{Writer}
 use Rattle.zj_dev.specs.Crash.{IsCrashSet}
-use Rattle.zj_dev.specs.Disk.{DiskView, EachImageSince, IsSettled}
+use Rattle.zj_dev.specs.Disk.{DiskView}
 use Rattle.zj_dev.specs.declared.span.Span.{Span}
 use Rattle.zj_history.specs.Cut.{IsConsistentCut, cut}
 use Rattle.zj_history.specs.Operation.{Operation}
@@ -24,8 +24,9 @@ use Rattle.zj_closure.specs.Found.{IsFoundAs, Journals, end_of, records_of, tail
 use Rattle.zj_closure.specs.Kept.{AreKept}
 use Rattle.zj_closure.specs.Recovered.{kept_records, recovered}
 use Rattle.zj_turns.specs.Passes.{CacheParameters}
+use Rattle.zj_core.specs.Committing.{calls_of_commit}
 use Rattle.zj_core.specs.Core.{CoreState}
-use Rattle.zj_session.specs.Logging.{AreSealed, Standing, end_behind, failed_after, running_after, tail_at}
+use Rattle.zj_session.specs.Logging.{AreSealed, Standing, commits_in, end_behind, failed_after, fails_in, running_after, tail_at}
 use Rattle.zj_session.specs.Played.{Played}
 
 -- ---- what the journals keep
@@ -36,10 +37,20 @@ pub record HoldsFirst (sizes : Numbers) (core : ℕ) (tail : Tail) (records : Li
   pub end : Tail
   pub holds : Holds sizes core image tail (take count records) end
 
--- Whatever a crash leaves of a journal, at a moment from this one on, holds some of the records that its core sealed, from the first on.
--- While no commit has failed it is at rest with all of them.
+-- Of commits that began at a moment, one after the other, each that has made its calls by another moment is among the first so many.
+abbrev pub HasCommitted : ℕ → ℕ → ℕ → ℕ → Type 0
+HasCommitted from commits moment count = (n : ℕ) → n ≤ commits → from + calls_of_commit * n ≤ moment → n ≤ count
+
+-- So many commits were made of a journal since a moment, and nothing else, but where another one failed. Whatever a crash leaves of it, at a
+-- moment since, holds some of the records that its core sealed, from the first on, and each that was committed by then. While none has failed
+-- the journal is at rest with all.
 pub record KeepsRecords (from : ℕ) (j : JournalView) (records : List Record) : Type 0 where
-  pub images : EachImageSince from j.disk (λ image. (count : ℕ) × HoldsFirst j.sizes j.core j.tail records count image)
+  pub commits : ℕ
+  pub sealed : length records ≡ commits + cond j.failed 1 0
+  pub images : (moment : ℕ) (image : List ℕ) → from ≤ moment → moment ≤ j.disk.calls → j.disk.may_leave moment image ≡ true
+      → (count : ℕ) × HoldsFirst j.sizes j.core j.tail records count image × HasCommitted from commits moment count
+  pub made : from + calls_of_commit * commits ≤ j.disk.calls
+  pub only : j.failed ≡ false → j.disk.calls ≡ from + calls_of_commit * commits
   pub at_rest : j.failed ≡ false → IsAtRest j records
   pub end : j.failed ≡ false → j.end ≡ end_behind j.sizes j.tail records
 
@@ -57,10 +68,11 @@ pub record HasLogged {D : Type 0} (view : D → DiskView) (from : ℕ) (tails : 
   pub number : c.running.number ≡ c.area.tail.number + length records
   pub next : IsNextNumber (tail_of tails) history core c.running.number
 
--- A core runs the transaction that lines tell, or, where a commit of it has failed, the one behind it.
+-- A core runs the transaction that lines tell, or, where a commit of that one has failed, the one behind it.
 pub record RunsAsTold {D : Type 0} (standing : Standing) (played : List Played) (core : ℕ) (c : CoreState D) : Type 0 where
   pub failed : c.area.failed ≡ failed_after standing played core
   pub number : c.area.failed ≡ false → c.running.number ≡ (running_after standing played core).number
+  pub behind : c.area.failed ≡ true → c.running.number ≡ (running_after standing played core).number + 1
 
 -- What cores that serve calls have logged of their history, each since a moment: the history's numbers begin at the tails, and each core's
 -- journal keeps its records.
@@ -86,20 +98,31 @@ pub record IsCutFound (sizes : Numbers) (start : BlockState) (tree : FileTree) (
   pub shows : Shows sizes (after start (cut history kept)) (tree_after (limits_of sizes) tree (chosen history kept calls))
   pub replies_are : chosen history kept replies ≡ replies_from (limits_of sizes) tree (chosen history kept calls)
 
--- What is found in images of home and of the journals, home first: records in each journal, each of which is the transaction of its core
--- and number; and blocks in home. Whatever is the greatest consistent cut found of them, recovery leaves that cut of the history.
-pub record RecoversCut (sizes : Numbers) (tails : List Tail) (start : BlockState) (tree : FileTree) (calls : List Call) (replies : List Reply) (history : List Operation)
-    (images : List (List ℕ)) : Type 0 where
+-- So many transactions of a core were found after a crash at a moment of a span of its journal. The commits that were answered to be done made
+-- their calls within the span, one after the other, from its first moment on, and where none failed no other call was made. Each that had made
+-- them by the moment of the crash was found, and no more, but where a commit failed that one too.
+pub record HoldsCommitted (played : List Played) (core : ℕ) (span : Span) (moment count : ℕ) : Type 0 where
+  pub made : span.from + calls_of_commit * commits_in played core ≤ span.to
+  pub only : fails_in played core ≡ false → span.to ≡ span.from + calls_of_commit * commits_in played core
+  pub least : HasCommitted span.from (commits_in played core) moment count
+  pub most : (count ≤ commits_in played core) ⊎ ((fails_in played core ≡ true) × (count ≡ commits_in played core + 1))
+
+-- What is found in images of home and of the journals, home first, which crashes at these moments left: records in each journal, each of which
+-- is the transaction of its core and number, and all that were committed by its moment; and blocks in home. Whatever is the greatest
+-- consistent cut found of them, recovery leaves that cut of the history.
+pub record RecoversCut (sizes : Numbers) (tails : List Tail) (start : BlockState) (tree : FileTree) (calls : List Call) (replies : List Reply) (played : List Played) (history : List Operation)
+    (spans : List Span) (moments : List ℕ) (images : List (List ℕ)) : Type 0 where
   pub found : Journals
   pub many : length found ≡ sizes.cores
   pub holds : (core : ℕ) (image : List ℕ) → core < sizes.cores → slice_get images (core + 1) ≡ Some image → (end : Tail) × Holds sizes core image (tail_at tails core) (records_of found core) end
   pub transactions : (t : Writer) (r : Record) → IsFoundAs (tail_of tails) found t r → IsFrozen history t r
+  pub committed : (core moment : ℕ) (span : Span) → core < sizes.cores → slice_get spans (core + 1) ≡ Some span → slice_get moments (core + 1) ≡ Some moment → HoldsCommitted played core span moment (length (records_of found core))
   pub home : BlockState
   pub many_blocks : length home ≡ sizes.blocks
   pub blocks : (image : List ℕ) → slice_get images 0 ≡ Some image → HoldsBlocks image home (length home)
   pub recovers : (kept : Bounds) → AreKept (tail_of tails) found kept → IsCutFound sizes start tree calls replies history (tail_of tails) found home kept
 
 -- The images of home and of journals, home first, that a crash within these spans may leave, recover to a cut of the history.
-abbrev pub CrashesRecover : List DiskView → List Span → Numbers → List Tail → BlockState → FileTree → List Call → List Reply → List Operation → Type 0
-CrashesRecover disks spans sizes tails start tree calls replies history =
-    (moments : List ℕ) (images : List (List ℕ)) → IsCrashSet disks spans moments images → RecoversCut sizes tails start tree calls replies history images
+abbrev pub CrashesRecover : List DiskView → List Span → Numbers → List Tail → BlockState → FileTree → List Call → List Reply → List Played → List Operation → Type 0
+CrashesRecover disks spans sizes tails start tree calls replies played history =
+    (moments : List ℕ) (images : List (List ℕ)) → IsCrashSet disks spans moments images → RecoversCut sizes tails start tree calls replies played history spans moments images

@@ -21,7 +21,7 @@ use Rattle.zj_turns.specs.Passes.{CacheParameters}
 use Rattle.zj_core.specs.Core.{CoreState, IsSteady}
 use Rattle.zj_session.specs.Answering.{IsAnswered}
 use Rattle.zj_session.specs.Crashes.{AreLogged, CrashesRecover, StandAsTold}
-use Rattle.zj_session.specs.Logging.{FitsLog, IsRightOfLog, Standing, failed_after, running_after, tail_at}
+use Rattle.zj_session.specs.Logging.{FitsLog, IsRightOfLog, Standing, failed_after, running_after, standing_at, tail_at}
 use Rattle.zj_session.specs.Played.{Fit, IsRight, IsRun, Played, handle_after, has_ticket, tickets_in}
 use Rattle.zj_session.specs.Service.{IsService, IsServing}
 
@@ -57,19 +57,19 @@ LogFitsFurther = (sizes : Numbers) (tails : List Tail) (start : BlockState) (bef
     → IsRightOfLog sizes (tail_at tails core) (after start history) history later (running_after standing played core) (failed_after standing played core) (handle_after played core) line.act form
     → FitsLog sizes tails start before standing (played ++ (line, form) ∷ []) later
 
--- The spans are those of the journals of cores, each from a moment on at the earliest, and until now at the latest.
+-- The spans are those of the journals of cores, each from a moment on until now.
 abbrev pub AreSpansOf : {D : Type 0} → (D → DiskView) → List ℕ → List (CoreState D) → List Span → Type 0
-AreSpansOf {D} view from cores spans = (i : ℕ) (c : CoreState D) → slice_get cores i ≡ Some c → IsSomeAnd (slice_get spans i) (λ s. (slice_index from i ≤ s.from) × (s.to ≤ (view c.area.device).calls))
+AreSpansOf {D} view from cores spans = (i : ℕ) (c : CoreState D) → slice_get cores i ≡ Some c → IsSomeAnd (slice_get spans i) (λ s. (s.from ≡ slice_index from i) × (s.to ≡ (view c.area.device).calls))
 
--- THE LAW OF A ROUND: where cores have logged the history of calls that they served, from the tails of an image on, and home holds the image's
--- blocks whatever a crash leaves of it, each crash within the round recovers to a cut of that history.
+-- THE LAW OF A ROUND: where cores have logged the history of calls that they served, from the tails of an image on, and stand as lines tell, and
+-- home holds the image's blocks whatever a crash leaves of it, each crash within the round recovers to a cut of that history.
 abbrev pub RoundRecovers : Type 0 → Type 0
 RoundRecovers D = (view : D → DiskView) (cache : CacheParameters) (from : List ℕ) (tails : List Tail) (cores : List (CoreState D)) (history : List Operation) (sealed : Journals)
-    (home : DiskView) (span : Span) (spans : List Span) (tree : FileTree) (calls : List Call) (replies : List Reply)
-    → IsService cache cores history → AreLogged view from tails cores history sealed → AreSpansOf view from cores spans
+    (home : DiskView) (span : Span) (spans : List Span) (tree : FileTree) (calls : List Call) (replies : List Reply) (played : List Played)
+    → IsService cache cores history → AreLogged view from tails cores history sealed → StandAsTold (standing_at tails) played cores → AreSpansOf view from cores spans
     → Shows cache.sizes cache.start tree → IsServed cache.sizes history calls replies
     → ((moment : ℕ) (image : List ℕ) → LeavesIn home span moment image → HoldsBlocks image cache.start (length cache.start))
-    → CrashesRecover (home ∷ map (λ c. view c.area.device) cores) (span ∷ spans) cache.sizes tails cache.start tree calls replies history
+    → CrashesRecover (home ∷ map (λ c. view c.area.device) cores) (span ∷ spans) cache.sizes tails cache.start tree calls replies played history
 
 -- Lines, answers and a history that fit go on to fit with one line more, where its answer is right.
 abbrev pub FitsFurther : Type 0

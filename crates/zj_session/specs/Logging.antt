@@ -1,5 +1,5 @@
 -- What lines and their answers tell of the transactions of the cores, and what each answer says of them.
-use Rattle.std.specs.Prelude.{◌≡◌, ◌≢◌, ℕ, ◌+◌, ◌<◌, ◌&&◌, ◌||◌, Bool, true, false, List, [], length, fold, take, count_by, Option, Some, IsSomeAnd, slice_get, ⊤}
+use Rattle.std.specs.Prelude.{◌≡◌, ◌≢◌, ℕ, ◌+◌, ◌<◌, ◌≤◌, ◌&&◌, ◌||◌, Bool, true, false, List, [], ◌∷◌, ◌++◌, length, fold, take, count_by, Option, Some, IsSomeAnd, slice_get, ⊤}
 use Rattle.std.specs.List.{list_any, slice_index_or}
 use Rattle.zj_block.specs.Numbers.{zero_tail}
 use Rattle.zj_block.specs.Sizes.{Numbers}
@@ -99,11 +99,19 @@ pub record IsOverfull (sizes : Numbers) (state : BlockState) (known : List Opera
   pub more_is : more ≡ new_count sealed_now.parts written
   pub past : MAX_RECORD_BLOCKS < have + more
 
--- What an answer says of the transaction that runs on its core, where these operations were before. One with a ticket belongs to it. A commit
--- that is answered has some operation to commit, and names the number; one that fails has some as well; and an empty one has none. A full
--- journal, and a transaction that would have too many blocks, are told so. Only a core of which a commit has failed is told that.
+-- The operations of a transaction leave no more blocks than a record has.
+pub record FitsRecord (history : List Operation) (t : Writer) : Type 0 where
+  pub sealed_now : Record
+  pub ascending : Ascends 0 sealed_now.parts
+  pub frozen : IsFrozen history t sealed_now
+  pub few : length sealed_now.parts ≤ MAX_RECORD_BLOCKS
+
+-- What an answer says of the transaction that runs on its core, where these operations were before. One with a ticket belongs to it, and with
+-- that one it has no more blocks than a record. A commit that is answered has some operation to commit, and names the number; one that fails has
+-- some as well; and an empty one has none. A full journal, and a transaction that would have too many blocks, are told so. Only a core of which a
+-- commit has failed is told that.
 abbrev pub SaysOfLog : Numbers → Tail → BlockState → List Operation → List Operation → Writer → Bool → Option OpenHandle → Act → Form → Type 0
-SaysOfLog sizes tail state known history running failed handle act (forms.Drew ticket reply) = (failed ≡ false) × IsSomeAnd (slice_get history ticket) (λ o. o.number ≡ running.number)
+SaysOfLog sizes tail state known history running failed handle act (forms.Drew ticket reply) = (failed ≡ false) × IsSomeAnd (slice_get history ticket) (λ o. (o.number ≡ running.number) × FitsRecord (known ++ o ∷ []) running)
 SaysOfLog sizes tail state known history running failed handle act forms.Begun = failed ≡ false
 SaysOfLog sizes tail state known history running failed handle act (forms.Committed number) = (failed ≡ false) × (number ≡ running.number) × (operations_of known running ≢ [])
 SaysOfLog sizes tail state known history running failed handle act forms.Empty = (failed ≡ false) × (operations_of known running ≡ [])
