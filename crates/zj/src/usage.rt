@@ -68,7 +68,8 @@ A call or stop is answered by txfull HAVE MORE where the transaction would have 
 than 48 blocks: commit first. A call or begin is answered by full NEED FREE where the
 transaction is empty and a longest record has no room in the journal. Where the file
 of a journal fails, the commit is answered by fault and its name, the status is 4 at
-the end, and that core answers failed CORE from then on; the other cores go on.
+the end, and each call, begin or commit of that core is answered by failed CORE from
+then on; the other cores go on.
 The language has these acts besides, which are not built yet and refused: fsync PATH,
 look, sync, and checkpoint alone.
 

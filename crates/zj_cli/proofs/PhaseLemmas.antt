@@ -156,10 +156,11 @@ module _ (phase : Phase) (from to : List ℕ) (between : IsBetween from to phase
       cc
 
   -- it is of a home and as many journals as there were moments
-  pub phase_of : {D : Type 0} (view : D → DiskView) (cores : ℕ) (d d' : D) (areas areas' : List (AreaView D)) → phase.devices ≡ length areas + 1 → length areas ≡ cores → length areas' ≡ cores
+  pub phase_of : {D : Type 0} (view : D → DiskView) (cores : ℕ) (d d' : D) (areas areas' : List (AreaView D)) → phase.devices ≡ length areas + 1 → length areas ≡ cores → length areas' ≡ cores → Continues (view d) (view d') → DevicesGoOn view areas areas'
       → AreMoments view d (map (λ (a : AreaView D). a.device) areas) from → AreMoments view d' (map (λ (a : AreaView D). a.device) areas') to → IsPhaseOf cores phase
-  phase_of {D = D} view cores d d' areas areas' devices many many' first last = record {
+  phase_of {D = D} view cores d d' areas areas' devices many many' home_on on first last = record {
     devices = omega (arith, devices, many);
+    forward = forward;
     places = sym (length-map phase.spans (λ (s : Span). s.from)) ∙ ap length between.froms ∙ first.places;
     behind = λ place span past here.
         let few : length (map (λ (a : AreaView D). a.device) areas) ≡ length areas = length-map areas (λ (a : AreaView D). a.device) in
@@ -168,6 +169,34 @@ module _ (phase : Phase) (from to : List ℕ) (between : IsBetween from to phase
         let zero_to : span.to ≡ 0 = sym (get_or_from_slice_get to place span.to 0 (sym (ap (λ (ms : List ℕ). slice_get ms place) between.tos) ∙ slice_get-map (λ (s : Span). s.to) phase.spans place ∙ ap (option_map (λ (s : Span). s.to)) here)) ∙ last.behind place (omega (arith, past, few', many')) in
         (λ i. record { from = zero_from i; to = zero_to i });
   }
+    where
+      forward : (place : ℕ) (span : Span) → slice_get phase.spans place ≡ Some span → span.from ≤ span.to
+      forward zero span here =
+          let begins : span.from ≡ (view d).calls = from_at 0 span (view d).calls here first.home_is in
+          let ends : span.to ≡ (view d').calls = to_at 0 span (view d').calls here last.home_is in
+          let up = home_on.calls in
+          omega (arith, begins, ends, up)
+      forward (suc core) span here = by (slice_get areas core) (slice_get areas' core) refl refl (on core)
+        where
+          there : slice_get phase.spans (core + 1) ≡ Some span
+          there = subst (λ (k : ℕ). slice_get phase.spans k ≡ Some span) (omega arith) here
+
+          by : (o o' : Option (AreaView D)) → slice_get areas core ≡ o → slice_get areas' core ≡ o' → MatchOption o (o' ≡ None) (λ a. IsSomeAnd o' (λ b. Continues (view a.device) (view b.device))) → span.from ≤ span.to
+          by None o' e e' goes =
+              let few : length (map (λ (a : AreaView D). a.device) areas) ≡ length areas = length-map areas (λ (a : AreaView D). a.device) in
+              let past : length areas ≤ core = none_past (cases_lt core (length areas)) in
+              let zero_from : span.from ≡ 0 = sym (get_or_from_slice_get from (suc core) span.from 0 (sym (ap (λ (ms : List ℕ). slice_get ms (suc core)) between.froms) ∙ slice_get-map (λ (s : Span). s.from) phase.spans (suc core) ∙ ap (option_map (λ (s : Span). s.from)) here)) ∙ first.behind (suc core) (omega (arith, past, few)) in
+              omega (arith, zero_from)
+            where
+              none_past : (core < length areas) ⊎ (length areas ≤ core) → length areas ≤ core
+              none_past (inl lt) = absurd (none_there areas core lt e)
+              none_past (inr le) = le
+          by (Some a) None e e' goes = absurd goes
+          by (Some a) (Some b) e e' goes =
+              let begins : span.from ≡ (view a.device).calls = from_at (core + 1) span (view a.device).calls there (at_core view d areas from first core a e) in
+              let ends : span.to ≡ (view b.device).calls = to_at (core + 1) span (view b.device).calls there (at_core view d' areas' to last core b e') in
+              let up = goes.calls in
+              omega (arith, begins, ends, up)
 
   -- it ends as the disks were told last
   pub ends_with : {D : Type 0} (view : D → DiskView) (d : D) (areas : List (AreaView D)) → phase.devices ≡ length areas + 1 → AreMoments view d (map (λ (a : AreaView D). a.device) areas) to
@@ -267,6 +296,15 @@ home_quiet view phase from to d areas areas' between first last disks home span 
 
 -- ---- the phases of a call
 
+-- devices that were settled go on
+pub settled_on : {D : Type 0} (view : D → DiskView) (old new : List (AreaView D)) → AreSettled view old new → DevicesGoOn view old new
+settled_on {D = D} view old new settled core = one (slice_get old core) (slice_get new core) (settled core)
+  where
+    one : (o o' : Option (AreaView D)) → MatchOption o (o' ≡ None) (λ a. IsSomeAnd o' (λ b. Settles (view a.device) (view b.device))) → MatchOption o (o' ≡ None) (λ a. IsSomeAnd o' (λ b. Continues (view a.device) (view b.device)))
+    one None o' is = is
+    one (Some a) None is = absurd is
+    one (Some a) (Some b) is = is.goes_on
+
 on_same : {D : Type 0} (view : D → DiskView) (areas : List (AreaView D)) → DevicesGoOn view areas areas
 on_same {D = D} view areas core = one (slice_get areas core)
   where
@@ -278,7 +316,7 @@ module _ {D : Type 0} (view : D → DiskView) (cores : ℕ) (phases : List Phase
     (between : IsBetween opened ready mount) (first : AreMoments view d0 (map (λ (a : AreaView D). a.device) areas0) opened) (last : AreMoments view d1 (map (λ (a : AreaView D). a.device) areas1) ready)
     (home : Settles (view d0) (view d1)) (settled : AreSettled view areas0 areas1) (counted : (place moment : ℕ) → slice_get ready place ≡ Some moment → moment < 2 ^ 64) (many : length areas0 ≡ cores) (many' : length areas1 ≡ cores) where
   mount_is : IsPhaseOf cores mount
-  mount_is = phase_of mount opened ready between view cores d0 d1 areas0 areas1 devices many many' first last
+  mount_is = phase_of mount opened ready between view cores d0 d1 areas0 areas1 devices many many' home.goes_on (settled_on view areas0 areas1 settled) first last
 
   pub one_phase : phases ≡ mount ∷ [] → ArePhases cores (AreOf view d1 areas1) phases
   one_phase is = subst (ArePhases cores (AreOf view d1 areas1)) (sym is) (
@@ -296,7 +334,7 @@ module _ {D : Type 0} (view : D → DiskView) (cores : ℕ) (phases : List Phase
     kind,
     round_kind,
     mount_is,
-    phase_of round ready ended behind view cores d1 d1 areas1 areas2 (omega (arith, round_devices, many, many')) many' many2 last final,
+    phase_of round ready ended behind view cores d1 d1 areas1 areas2 (omega (arith, round_devices, many, many')) many' many2 (continues_refl (view d1)) on last final,
     behind.froms ∙ sym between.tos,
     λ disks are. (
       still_in view mount opened ready between d0 d1 d1 areas0 areas1 areas2 first last home (continues_refl (view d1)) settled on counted disks are,

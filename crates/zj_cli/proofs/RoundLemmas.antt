@@ -44,7 +44,7 @@ below many core (p ∷ ps) playable fails = by (is_on core p.0.core && is_fault 
 -- ---- how the round ends
 
 module _ {D : Type 0} (view : D → DiskView) (old new : ServiceState D) (past : Past) (lines : List Line) (held now : Option (List ℕ)) (f f' : ℕ) (before after answers : List Answer) (none : before ≡ []) (adds : after ≡ before ++ answers)
-    (plays : PlaysLines view old new past lines [] answers) (text : List ℕ) (spelled : text ≡ flat_map answer_text after) where
+    (plays : PlaysLines view old new past lines [] answers) (playable : All (IsPlayable (length old.cores)) lines) (text : List ℕ) (spelled : text ≡ flat_map answer_text after) where
   all_answers : after ≡ map answer_of plays.played
   all_answers = adds ∙ ap (λ (front : List Answer). front ++ answers) none ∙ plays.answers_are
 
@@ -60,6 +60,7 @@ module _ {D : Type 0} (view : D → DiskView) (old new : ServiceState D) (past :
   part failed written rest lowest all took = record {
     answers = answers;
     plays = plays;
+    within = λ core. below (length old.cores) core plays.played (subst (All (IsPlayable (length old.cores))) (sym plays.lines_are ∙ append-nil (map (λ (p : Played). p.0) plays.played)) playable);
     lowest = lowest;
     written = written;
     text = all ∙ spelled ∙ ap (flat_map answer_text) all_answers;
@@ -78,10 +79,10 @@ module _ {D : Type 0} (view : D → DiskView) (old new : ServiceState D) (past :
           subst (λ (e : Fault). RoundEnds view old new past lines held now f f' (Some e)) (sym cause.0) ((front.1, part None front.0 front.1 (λ core. sym (told_is core) ∙ lowest core) front.2 front.3), cause.1)
 
   -- one did
-  pub round_failed : {T : Type 0} (wrote : Result T Fault) (stopped : Stopped) (fault : Fault) (told : Option Stopped) → told ≡ Some stopped → fault ≡ fault_of_stopping stopped → All (IsPlayable (length old.cores)) lines
+  pub round_failed : {T : Type 0} (wrote : Result T Fault) (stopped : Stopped) (fault : Fault) (told : Option Stopped) → told ≡ Some stopped → fault ≡ fault_of_stopping stopped
       → IsLowestFault (drop (length before) after) told → OnOk wrote (Took held now text) → OnErr wrote ((front rest : List ℕ) × (front ++ rest ≡ text) × Took held now front)
       → IfErr wrote (λ fault. (fault ≡ faults.Output) × Rose f f') → RoundEnds view old new past lines held now f f' (Some fault)
-  round_failed wrote stopped fault told some is playable lowest took front cause =
+  round_failed wrote stopped fault told some is lowest took front cause =
       subst (λ (e : Fault). RoundEnds view old new past lines held now f f' (Some e)) (sym is) (by stopped wrote (subst (IsLowestFault (drop (length before) after)) some lowest) took front cause)
     where
       wrote_some : {T : Type 0} (core : ℕ) (wrote : Result T Fault) → IsLowestFailed plays.played (Some core) → OnOk wrote (Took held now text) → OnErr wrote ((front rest : List ℕ) × (front ++ rest ≡ text) × Took held now front)
@@ -91,10 +92,6 @@ module _ {D : Type 0} (view : D → DiskView) (old new : ServiceState D) (past :
 
       by : {T : Type 0} (stopped : Stopped) (wrote : Result T Fault) → IsLowestFault (drop (length before) after) (Some stopped) → OnOk wrote (Took held now text) → OnErr wrote ((front rest : List ℕ) × (front ++ rest ≡ text) × Took held now front)
           → IfErr wrote (λ fault. (fault ≡ faults.Output) × Rose f f') → RoundEnds view old new past lines held now f f' (Some (fault_of_stopping stopped))
-      by (stops.Device (devices.Journal core)) wrote lowest took front cause =
-          let fails : fails_in plays.played core ≡ true = sym (told_is core) ∙ lowest.0 in (
-            wrote_some core wrote (fails, λ lower lt. sym (told_is lower) ∙ lowest.1 lower lt) took front cause,
-            below (length old.cores) core plays.played (subst (All (IsPlayable (length old.cores))) (sym plays.lines_are ∙ append-nil (map (λ (p : Played). p.0) plays.played)) playable) fails,
-          )
+      by (stops.Device (devices.Journal core)) wrote lowest took front cause = wrote_some core wrote (sym (told_is core) ∙ lowest.0, λ lower lt. sym (told_is lower) ∙ lowest.1 lower lt) took front cause
       by (stops.Device devices.Home) wrote lowest took front cause = absurd lowest
       by (stops.Damaged device at found expected) wrote lowest took front cause = absurd lowest

@@ -34,8 +34,9 @@ use Rattle.zj_script.specs.Script.{IsSchedule}
 use Rattle.zj_turns.specs.Passes.{CacheParameters}
 use Rattle.zj_core.specs.Core.{CoreState}
 use Rattle.zj_session.specs.Answering.{area_onward}
-use Rattle.zj_session.specs.Crashes.{AreLogged, CrashesRecover}
+use Rattle.zj_session.specs.Crashes.{AreLogged, CrashesRecover, StandAsTold}
 use Rattle.zj_session.specs.Laws.{AreSpansOf, FitIsRun, RoundRecovers}
+use Rattle.zj_session.specs.Logging.{standing_at}
 use Rattle.zj_session.specs.Played.{Played}
 use Rattle.zj_session.specs.Playing.{JournalsGoOn, PlaysLines, ServiceState, journals_of}
 use Rattle.zj_session.specs.Service.{IsService}
@@ -89,15 +90,6 @@ module _ {D : Type 0} (view : D → DiskView) (super : Super) (old new : List (A
       dead : (r : _) → r ≡ false → r ≡ true → ⊥
       dead r no_read is = cc
 
--- the devices of journals that were settled go on, and those behind them do
-pub go_on : {D : Type 0} (view : D → DiskView) (old new : List (AreaView D)) → AreSettled view old new → DevicesGoOn view old new
-go_on {D = D} view old new settled core = one (slice_get old core) (slice_get new core) (settled core)
-  where
-    one : (o o' : Option (AreaView D)) → MatchOption o (o' ≡ None) (λ a. IsSomeAnd o' (λ b. Settles (view a.device) (view b.device))) → MatchOption o (o' ≡ None) (λ a. IsSomeAnd o' (λ b. Continues (view a.device) (view b.device)))
-    one None o' is = is
-    one (Some a) None is = absurd is
-    one (Some a) (Some b) is = is.goes_on
-
 pub round_goes_on : {D : Type 0} (view : D → DiskView) (old new : List (AreaView D)) → JournalsGoOn view old new → DevicesGoOn view old new
 round_goes_on {D = D} view old new on core = one (slice_get old core) (slice_get new core) (on core)
   where
@@ -139,14 +131,14 @@ as_many {D = D} view old new on = by (cases_lt (length new) (length old)) (cases
 -- ---- why no line was played
 
 pub input_ends : (super : Super) (start : State) (tree : FileTree) (Stand : List DiskView → Type 0) (Rounds : List Span → Type 0) (Fails : ℕ → Type 0) (before after : Outside) (fault : Fault)
-    → IsInputCause super.sizes.cores before.left after.left before.input_faults after.input_faults fault → IsUnwritten before after → ScriptEnds super start tree Stand Rounds Fails before after (Some fault)
-input_ends super start tree Stand Rounds Fails before after (faults.Script kind line column) cause unwritten = record { read = cause.0; input = cause.1; place = cause.2; unwritten = unwritten }
-input_ends super start tree Stand Rounds Fails before after faults.Memory cause unwritten = record { read = cause.0; reads = cause.1; unwritten = unwritten }
-input_ends super start tree Stand Rounds Fails before after faults.Input cause unwritten = (record { read = cause.0.0; reads = cause.0.1; unwritten = unwritten }, cause.1)
-input_ends super start tree Stand Rounds Fails before after faults.Words cause unwritten = absurd cause
-input_ends super start tree Stand Rounds Fails before after (faults.Image fault) cause unwritten = absurd cause
-input_ends super start tree Stand Rounds Fails before after (faults.Device device) cause unwritten = absurd cause
-input_ends super start tree Stand Rounds Fails before after faults.Output cause unwritten = absurd cause
+    → ((spans : List Span) → Rounds spans → ⊥) → IsInputCause super.sizes.cores before.left after.left before.input_faults after.input_faults fault → IsUnwritten before after → ScriptEnds super start tree Stand Rounds Fails before after (Some fault)
+input_ends super start tree Stand Rounds Fails before after (faults.Script kind line column) none cause unwritten = (record { read = cause.0; input = cause.1; place = cause.2; unwritten = unwritten }, none)
+input_ends super start tree Stand Rounds Fails before after faults.Memory none cause unwritten = record { read = cause.0; reads = cause.1; unwritten = unwritten }
+input_ends super start tree Stand Rounds Fails before after faults.Input none cause unwritten = (record { read = cause.0.0; reads = cause.0.1; unwritten = unwritten }, cause.1, none)
+input_ends super start tree Stand Rounds Fails before after faults.Words none cause unwritten = absurd cause
+input_ends super start tree Stand Rounds Fails before after (faults.Image fault) none cause unwritten = absurd cause
+input_ends super start tree Stand Rounds Fails before after (faults.Device device) none cause unwritten = absurd cause
+input_ends super start tree Stand Rounds Fails before after faults.Output none cause unwritten = absurd cause
 
 -- ---- how the lines were played
 
@@ -169,12 +161,12 @@ journal_fails {D = D} view areas old new core settled on below rose =
 
 -- each crash within the round recovers
 pub round_recovered : {D : Type 0} (law : RoundRecovers D) (view : D → DiskView) (cache : CacheParameters) (cores : List (CoreState D)) (areas : List (AreaView D)) (tails : List Tail) (d : D) (round : Phase) (ready ended : List ℕ)
-    (tree : FileTree) (history : List Operation) (sealed : Journals) (calls : List Call) (replies : List Reply)
+    (tree : FileTree) (history : List Operation) (sealed : Journals) (calls : List Call) (replies : List Reply) (played : List Played)
     → IsBetween ready ended round → AreMoments view d (map (λ (a : AreaView D). a.device) areas) ready → AreMoments view d (map (λ (a : AreaView D). a.device) (journals_of cores)) ended
     → length cores ≡ length areas → round.devices ≡ length areas + 1 → IsSettled (view d) → IfSome (view d).bytes (λ image. HoldsBlocks image cache.start (length cache.start))
-    → IsService cache cores history → AreLogged view (map (λ (a : AreaView D). (view a.device).calls) areas) tails cores history sealed → Shows cache.sizes cache.start tree → IsServed cache.sizes history calls replies
-    → (disks : List DiskView) → AreOf view d (journals_of cores) disks → CrashesRecover disks (spans_in round) cache.sizes tails cache.start tree calls replies history
-round_recovered {D = D} law view cache cores areas tails d round ready ended tree history sealed calls replies between first last many devices settled held service logged shows served disks are =
+    → IsService cache cores history → AreLogged view (map (λ (a : AreaView D). (view a.device).calls) areas) tails cores history sealed → StandAsTold (standing_at tails) played cores → Shows cache.sizes cache.start tree → IsServed cache.sizes history calls replies
+    → (disks : List DiskView) → AreOf view d (journals_of cores) disks → CrashesRecover disks (spans_in round) cache.sizes tails cache.start tree calls replies played history
+round_recovered {D = D} law view cache cores areas tails d round ready ended tree history sealed calls replies played between first last many devices settled held service logged stand shows served disks are =
     by (spans_in round) refl (ends_with round ready ended between view d (journals_of cores) (omega (arith, devices, many, length-map cores (λ (c : CoreState D). c.area))) last disks are)
   where
     from : List ℕ
@@ -197,13 +189,13 @@ round_recovered {D = D} law view cache cores areas tails d round ready ended tre
 
     -- the span of a journal begins as the service started, and ends as it ended
     one_span : (i : ℕ) (c : CoreState D) (s : Option Span) → slice_get cores i ≡ Some c → slice_get (spans_in round) (i + 1) ≡ s → option_map (λ (s : Span). s.to) s ≡ Some (view c.area.device).calls
-        → IsSomeAnd s (λ s. (slice_index from i ≤ s.from) × (s.to ≤ (view c.area.device).calls))
+        → IsSomeAnd s (λ s. (s.from ≡ slice_index from i) × (s.to ≡ (view c.area.device).calls))
     one_span i c None here at is = cc
     one_span i c (Some s) here at is =
         let there = of_take round.devices round.spans (i + 1) s at in
         let to_is : s.to ≡ (view c.area.device).calls = cc in
         let from_is : slice_index from i ≡ s.from = begins (slice_get areas i) refl s there in
-        (omega (arith, from_is), omega (arith, to_is))
+        (sym from_is, to_is)
       where
         begins : (o : Option (AreaView D)) → slice_get areas i ≡ o → (s : Span) → slice_get round.spans (i + 1) ≡ Some s → slice_index from i ≡ s.from
         begins None e s there = absurd (none_there areas i (omega (arith, slice_get_within cores i c here, many)) e)
@@ -211,7 +203,7 @@ round_recovered {D = D} law view cache cores areas tails d round ready ended tre
             get_or_from_slice_get from i (view a.device).calls 0 (slice_get-map (λ (a : AreaView D). (view a.device).calls) areas i ∙ ap (option_map (λ (a : AreaView D). (view a.device).calls)) e)
             ∙ sym (from_at round ready ended between (i + 1) s (view a.device).calls there (at_core view d areas ready first i a e))
 
-    by : (spans : List Span) → spans_in round ≡ spans → map (λ (s : Span). s.to) spans ≡ map (λ (x : DiskView). x.calls) disks → CrashesRecover disks spans cache.sizes tails cache.start tree calls replies history
+    by : (spans : List Span) → spans_in round ≡ spans → map (λ (s : Span). s.to) spans ≡ map (λ (x : DiskView). x.calls) disks → CrashesRecover disks spans cache.sizes tails cache.start tree calls replies played history
     by [] is ends = absurd (let e = ends ∙ ap (map (λ (x : DiskView). x.calls)) same in cc)
     by (span ∷ spans) is ends =
         let are_spans : AreSpansOf view from cores spans = (λ i c here.
@@ -220,38 +212,46 @@ round_recovered {D = D} law view cache cores areas tails d round ready ended tre
         sym (slice_get-map (λ (s : Span). s.to) spans i) ∙ ap (λ (ms : List ℕ). slice_get ms (suc i)) (ends ∙ ap (map (λ (x : DiskView). x.calls)) same)
         ∙ slice_get-map (λ (x : DiskView). x.calls) (map (λ (c : CoreState D). view c.area.device) cores) i ∙ ap (option_map (λ (x : DiskView). x.calls)) (slice_get-map (λ (c : CoreState D). view c.area.device) cores i ∙ ap (option_map (λ (c : CoreState D). view c.area.device)) here) in
         one_span i c (slice_get spans i) here (subst (λ (k : ℕ). slice_get (spans_in round) k ≡ slice_get spans i) next (ap (λ (ss : List Span). slice_get ss (suc i)) is)) told) in
-        subst (λ (ds : List DiskView). CrashesRecover ds (span ∷ spans) cache.sizes tails cache.start tree calls replies history) (sym same)
-        (law view cache from tails cores history sealed (view d) span spans tree calls replies service logged are_spans shows served (holds span (ap (λ (ss : List Span). slice_get ss 0) is)))
+        subst (λ (ds : List DiskView). CrashesRecover ds (span ∷ spans) cache.sizes tails cache.start tree calls replies played history) (sym same)
+        (law view cache from tails cores history sealed (view d) span spans tree calls replies played service logged stand are_spans shows served (holds span (ap (λ (ss : List Span). slice_get ss 0) is)))
 
 -- in the words of the image
 pub session_recovers : {D : Type 0} (law : RoundRecovers D) (view : D → DiskView) (super : Super) (start : State) (tree : FileTree) (cache : CacheParameters) (cores : List (CoreState D)) (areas areas' : List (AreaView D)) (base d : D) (round : Phase) (ready ended : List ℕ)
     → cache.sizes ≡ super.sizes → cache.start ≡ start → map (λ (a : AreaView D). a.tail) areas ≡ super.tails → areas' ≡ journals_of cores
     → IsBetween ready ended round → AreMoments view d (map (λ (a : AreaView D). a.device) areas) ready → AreMoments view d (map (λ (a : AreaView D). a.device) (journals_of cores)) ended
     → length cores ≡ length areas → round.devices ≡ length areas + 1 → IsSettled (view d) → (view d).bytes ≡ (view base).bytes → IfSome (view base).bytes (λ image. HoldsBlocks image start (length start)) → Shows super.sizes start tree
-    → (history : List Operation) (sealed : Journals) (calls : List Call) (replies : List Reply) → IsService cache cores history → AreLogged view (past_of view areas).from (past_of view areas).tails cores history sealed → IsServed super.sizes history calls replies
-    → (disks : List DiskView) → AreOf view d areas' disks → CrashesRecover disks (spans_in round) super.sizes super.tails start tree calls replies history
-session_recovers {D = D} law view super start tree cache cores areas areas' base d round ready ended sized held tails same between first last many devices settled read holds shows history sealed calls replies service logged served disks are =
+    → (history : List Operation) (sealed : Journals) (calls : List Call) (replies : List Reply) (played : List Played) → IsService cache cores history → AreLogged view (past_of view areas).from (past_of view areas).tails cores history sealed → StandAsTold (past_of view areas).standing played cores → IsServed super.sizes history calls replies
+    → (disks : List DiskView) → AreOf view d areas' disks → CrashesRecover disks (spans_in round) super.sizes super.tails start tree calls replies played history
+session_recovers {D = D} law view super start tree cache cores areas areas' base d round ready ended sized held tails same between first last many devices settled read holds shows history sealed calls replies played service logged stand served disks are =
     rw (sized, held, tails) at
-    (round_recovered law view cache cores areas (map (λ (a : AreaView D). a.tail) areas) d round ready ended tree history sealed calls replies between first last many devices settled (rw (held, read) holds) service logged (rw (sized, held) shows) (rw sized served) disks
+    (round_recovered law view cache cores areas (map (λ (a : AreaView D). a.tail) areas) d round ready ended tree history sealed calls replies played between first last many devices settled (rw (held, read) holds) service logged stand (rw (sized, held) shows) (rw sized served) disks
     (subst (λ (all : List (AreaView D)). AreOf view d all disks) same are))
 
 -- ---- what a round leaves, however it ends
 
 module _ {D : Type 0} (view : D → DiskView) (super : Super) (start : State) (tree : FileTree) (old new : ServiceState D) (areas : List (AreaView D)) (lines : List Line) (Stand : List DiskView → Type 0)
     (sized : old.cache.sizes ≡ super.sizes) (held : old.cache.start ≡ start) (tails : map (λ (a : AreaView D). a.tail) areas ≡ super.tails) (shows : Shows super.sizes start tree) (fits : FitIsRun) (spans : List Span)
-    (recover : (history : List Operation) (sealed : Journals) (calls : List Call) (replies : List Reply) → IsService new.cache new.cores history → AreLogged view (past_of view areas).from (past_of view areas).tails new.cores history sealed → IsServed super.sizes history calls replies
-    → (disks : List DiskView) → Stand disks → CrashesRecover disks spans super.sizes super.tails start tree calls replies history) where
-  pub cuts_of : (rest : List Line) (answers : List Answer) → PlaysLines view old new (past_of view areas) lines rest answers → LeavesCuts super start tree Stand spans
-  cuts_of rest answers plays =
+    (recover : (history : List Operation) (sealed : Journals) (calls : List Call) (replies : List Reply) (played : List Played) → IsService new.cache new.cores history → AreLogged view (past_of view areas).from (past_of view areas).tails new.cores history sealed → StandAsTold (past_of view areas).standing played new.cores → IsServed super.sizes history calls replies
+    → (disks : List DiskView) → Stand disks → CrashesRecover disks spans super.sizes super.tails start tree calls replies played history) where
+  pub cuts_of : (left now : Option (List ℕ)) (read : List ℕ) → ReadsInput left now read → IsSchedule super.sizes.cores read lines → AreBuilt lines
+      → (rest : List Line) (answers : List Answer) → PlaysLines view old new (past_of view areas) lines rest answers → LeavesCuts super start tree Stand left now spans
+  cuts_of left now read input schedule built rest answers plays =
       let fit = rw (sized, held) at plays.fit in
       let run = fits super.sizes start tree plays.played plays.later shows fit in
       record {
+        read = read;
+        lines = lines;
+        rest = rest;
+        input = input;
+        is_schedule = schedule;
+        built = built;
+        front = plays.lines_are;
         played = plays.played;
         history = plays.later;
         fit = fit;
         fits_log = rw (sized, held, tails) at plays.fits_log;
         run = run.0;
-        recovers = recover plays.later plays.sealed run.0.calls run.0.replies plays.service plays.logged run.1;
+        recovers = recover plays.later plays.sealed run.0.calls run.0.replies plays.played plays.service plays.logged plays.stand run.1;
       }
 
 -- ---- how the script ends
@@ -260,10 +260,10 @@ module _ {D : Type 0} (view : D → DiskView) (super : Super) (start : State) (t
     (sized : old.cache.sizes ≡ super.sizes) (held : old.cache.start ≡ start) (tails : map (λ (a : AreaView D). a.tail) areas ≡ super.tails) (shows : Shows super.sizes start tree) (fits : FitIsRun)
     (read : List ℕ) (input : ReadsInput before.left after.left read) (schedule : IsSchedule super.sizes.cores read lines) (built : AreBuilt lines) (quiet : after.input_faults ≡ before.input_faults)
     (spans : List Span) (round : Rounds spans)
-    (recover : (history : List Operation) (sealed : Journals) (calls : List Call) (replies : List Reply) → IsService new.cache new.cores history → AreLogged view (past_of view areas).from (past_of view areas).tails new.cores history sealed → IsServed super.sizes history calls replies
-    → (disks : List DiskView) → Stand disks → CrashesRecover disks spans super.sizes super.tails start tree calls replies history)
+    (recover : (history : List Operation) (sealed : Journals) (calls : List Call) (replies : List Reply) (played : List Played) → IsService new.cache new.cores history → AreLogged view (past_of view areas).from (past_of view areas).tails new.cores history sealed → StandAsTold (past_of view areas).standing played new.cores → IsServed super.sizes history calls replies
+    → (disks : List DiskView) → Stand disks → CrashesRecover disks spans super.sizes super.tails start tree calls replies played history)
     (fails : (core : ℕ) → core < length old.cores → ((a b : CoreState D) → slice_get old.cores core ≡ Some a → slice_get new.cores core ≡ Some b → Rose (view a.area.device).faults (view b.area.device).faults) → Fails core) where
-  plays_of : (failed : Option ℕ) (rest : List ℕ) → PlaysRound view old new (past_of view areas) lines before.held after.held failed rest → Plays super start tree Stand Rounds before after failed rest
+  plays_of : (failed : Option ℕ) (rest : List ℕ) → PlaysRound view old new (past_of view areas) lines before.held after.held failed rest → Plays super start tree Stand Rounds Fails before after failed rest
   plays_of failed rest played =
       let plays = played.plays in
       let fit = rw (sized, held) at plays.fit in
@@ -283,7 +283,8 @@ module _ {D : Type 0} (view : D → DiskView) (super : Super) (start : State) (t
         fits_log = rw (sized, held, tails) at plays.fits_log;
         run = run.0;
         round = round;
-        recovers = recover plays.later plays.sealed run.0.calls run.0.replies plays.service plays.logged run.1;
+        recovers = recover plays.later plays.sealed run.0.calls run.0.replies plays.played plays.service plays.logged plays.stand run.1;
+        fails = λ core failed. fails core (played.within core failed) (λ a b here there. plays.rose core a b here there failed);
         lowest = played.lowest;
         text = played.text;
         took = played.took;
@@ -291,9 +292,7 @@ module _ {D : Type 0} (view : D → DiskView) (super : Super) (start : State) (t
 
   pub script_ends : (fault : Option Fault) → RoundEnds view old new (past_of view areas) lines before.held after.held before.output_faults after.output_faults fault → ScriptEnds super start tree Stand Rounds Fails before after fault
   script_ends None ends = (plays_of None [] ends.0, quiet, ends.1)
-  script_ends (Some (faults.Device (devices.Journal core))) ends =
-      let round = ends.0.1 in
-      ((ends.0.0, plays_of (Some core) ends.0.0 round, ends.0.2), fails core ends.1 (λ a b here there. round.plays.rose core a b here there round.lowest.0))
+  script_ends (Some (faults.Device (devices.Journal core))) ends = (ends.0, plays_of (Some core) ends.0 ends.1, ends.2)
   script_ends (Some (faults.Device devices.Home)) ends = absurd ends
   script_ends (Some faults.Memory) ends = record { read = read; reads = input.reads; unwritten = ends }
   script_ends (Some faults.Output) ends = ((ends.0.0, plays_of None ends.0.0 ends.0.1), ends.1)

@@ -154,8 +154,8 @@ phases_under cores Stand Told (mount ∷ []) to are = (are.0, are.1, λ disks to
 phases_under cores Stand Told (mount ∷ round ∷ []) to are = (are.0, are.1, are.2, are.3, are.4, λ disks told. are.5 disks (to disks told))
 phases_under cores Stand Told (mount ∷ round ∷ more ∷ phases) to are = absurd are
 
-module _ (super : Super) (start : State) (tree : FileTree) (Stand Told : List DiskView → Type 0) (Rounds : List Span → Type 0) (before after : Outside) (to : (disks : List DiskView) → Told disks → Stand disks) where
-  plays_under : (failed : Option ℕ) (rest : List ℕ) → Plays super start tree Stand Rounds before after failed rest → Plays super start tree Told Rounds before after failed rest
+module _ (super : Super) (start : State) (tree : FileTree) (Stand Told : List DiskView → Type 0) (Rounds : List Span → Type 0) (Fails Rise : ℕ → Type 0) (before after : Outside) (to : (disks : List DiskView) → Told disks → Stand disks) (rises : (core : ℕ) → Fails core → Rise core) where
+  plays_under : (failed : Option ℕ) (rest : List ℕ) → Plays super start tree Stand Rounds Fails before after failed rest → Plays super start tree Told Rounds Rise before after failed rest
   plays_under failed rest plays = record {
     read = plays.read;
     lines = plays.lines;
@@ -172,18 +172,19 @@ module _ (super : Super) (start : State) (tree : FileTree) (Stand Told : List Di
     run = plays.run;
     round = plays.round;
     recovers = λ disks told. plays.recovers disks (to disks told);
+    fails = λ core failed. rises core (plays.fails core failed);
     lowest = plays.lowest;
     text = plays.text;
     took = plays.took;
   }
 
-  pub script_under : (Fails Rise : ℕ → Type 0) (fault : Option Fault) → ((core : ℕ) → Fails core → Rise core) → ScriptEnds super start tree Stand Rounds Fails before after fault → ScriptEnds super start tree Told Rounds Rise before after fault
-  script_under Fails Rise None rises ends = (plays_under None [] ends.0, ends.1, ends.2)
-  script_under Fails Rise (Some (faults.Device (devices.Journal core))) rises ends = ((ends.0.0, plays_under (Some core) ends.0.0 ends.0.1, ends.0.2), rises core ends.1)
-  script_under Fails Rise (Some (faults.Device devices.Home)) rises ends = absurd ends
-  script_under Fails Rise (Some faults.Memory) rises ends = ends
-  script_under Fails Rise (Some faults.Input) rises ends = ends
-  script_under Fails Rise (Some faults.Output) rises ends = ((ends.0.0, plays_under None ends.0.0 ends.0.1), ends.1)
-  script_under Fails Rise (Some faults.Words) rises ends = absurd ends
-  script_under Fails Rise (Some (faults.Script kind line column)) rises ends = ends
-  script_under Fails Rise (Some (faults.Image fault)) rises ends = absurd ends
+  pub script_under : (fault : Option Fault) → ScriptEnds super start tree Stand Rounds Fails before after fault → ScriptEnds super start tree Told Rounds Rise before after fault
+  script_under None ends = (plays_under None [] ends.0, ends.1, ends.2)
+  script_under (Some (faults.Device (devices.Journal core))) ends = (ends.0, plays_under (Some core) ends.0 ends.1, ends.2)
+  script_under (Some (faults.Device devices.Home)) ends = absurd ends
+  script_under (Some faults.Memory) ends = ends
+  script_under (Some faults.Input) ends = ends
+  script_under (Some faults.Output) ends = ((ends.0.0, plays_under None ends.0.0 ends.0.1), ends.1)
+  script_under (Some faults.Words) ends = absurd ends
+  script_under (Some (faults.Script kind line column)) ends = ends
+  script_under (Some (faults.Image fault)) ends = absurd ends

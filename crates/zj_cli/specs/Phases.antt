@@ -24,10 +24,11 @@ pub record AreUnder (cores : ℕ) (names : ShelfView) (disks : List DiskView) : 
 
 -- ---- the phases
 
--- A phase is of home and the journals of so many cores. Behind those the spans are 0.
+-- A phase is of home and the journals of so many cores, and no span of it ends before it begins. Behind those the spans are 0.
 pub record IsPhaseOf (cores : ℕ) (phase : Phase) : Type 0 where
   pub devices : phase.devices ≡ cores + 1
   pub places : length phase.spans ≡ 65
+  pub forward : (place : ℕ) (span : Span) → slice_get phase.spans place ≡ Some span → span.from ≤ span.to
   pub behind : (place : ℕ) (span : Span) → cores < place → slice_get phase.spans place ≡ Some span → span ≡ record { from = 0; to = 0 }
 
 -- A phase begins, on each device, where another ends.
@@ -55,10 +56,11 @@ ArePhases cores Stand (mount ∷ round ∷ []) = (mount.kind ≡ kinds.Mount) ×
     × ((disks : List DiskView) → Stand disks → IsStillIn mount disks × IsHomeQuietIn round disks × EndsWith round disks)
 ArePhases cores Stand phases = ⊥
 
--- From the moment at which these disks stood on the shelf, up to the first moment of a phase, nothing was written.
+-- From the moment at which these disks stood on the shelf, up to the first moment of a phase, nothing was written. Of the last moment that a
+-- count of calls can tell nothing is said.
 abbrev pub BeginsAfter : Phase → List DiskView → List DiskView → Type 0
 BeginsAfter phase stood disks = (place moment : ℕ) (old disk : DiskView) (span : Span) (image : List ℕ) → slice_get stood place ≡ Some old → slice_get disks place ≡ Some disk → slice_get (spans_in phase) place ≡ Some span
-    → old.calls ≤ moment → moment < span.from → disk.may_leave moment image ≡ disk.may_leave old.calls image
+    → old.calls ≤ moment → moment ≤ span.from → moment < 2 ^ 64 - 1 → disk.may_leave moment image ≡ disk.may_leave old.calls image
 
 -- The first phase begins so, as an image of so many cores was opened.
 abbrev pub PhasesBegin : ShelfView → ShelfView → List Phase → Type 0

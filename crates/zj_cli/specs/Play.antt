@@ -1,6 +1,7 @@
 -- What `play` does, by the fault that it ends with.
 use Rattle.std.specs.Prelude.{◌≡◌, ◌⊎◌, ℕ, ◌+◌, ◌<◌, ◌≤◌, true, false, List, [], ◌++◌, length, map, Option, Some, None, IfSome}
-use Rattle.std.specs.List.{flat_map}
+use Rattle.std.specs.List.{All, flat_map}
+use Rattle.zj_block.specs.declared.sizes.TheConstants.{MAX_CORES}
 use Rattle.zj_dev.specs.Fault.{Rose}
 use Rattle.zj_dev.specs.Disk.{Continues, DiskView}
 use Rattle.zj_dev.specs.Shelf.{ShelfView}
@@ -22,7 +23,7 @@ use Rattle.zj_session.specs.Logging.{FitsLog, fails_in, standing_at}
 use Rattle.zj_session.specs.Played.{Fit, IsRun, Played}
 use Rattle.zj_session.specs.Playing.{Past, PlaysLines, ServiceState, answer_of}
 use Rattle.zj_mount.specs.Image.{HasHome, HasJournals, RoseUnder}
-use Rattle.zj_mount.specs.Set.{AllBack, AllBackAs, journal_name}
+use Rattle.zj_mount.specs.Set.{AllBack, AllBackAs, IsBack, journal_name}
 use Rattle.zj_mount.specs.Settling.{Settles}
 use Rattle.zj_cli.specs.declared.phase.Phase.{Phase}
 use Rattle.zj_cli.specs.declared.status.Fault.{Fault}
@@ -50,9 +51,9 @@ IsLowestFailed played (Some core) = (fails_in played core ≡ true) × ((lower :
 
 -- What was read is a schedule for an image, whose acts are all built. All its lines were played: they, their answers and one history from
 -- the image's blocks on fit, also in what the answers say of the cores' transactions; the replies are the plain service's in turn from
--- the tree on; each crash within the round recovers to a cut of that history, on the disks where they are told; and the answers were
--- written but for the rest. This is the lowest core of which a commit failed, if one did.
-pub record Plays (super : Super) (start : State) (tree : FileTree) (Stand : List DiskView → Type 0) (Rounds : List Span → Type 0) (before after : Outside) (failed : Option ℕ) (rest : List ℕ) : Type 0 where
+-- the tree on; each crash within the round recovers to a cut of that history, on the disks where they are told; a commit of a core failed only
+-- where its journal did; and the answers were written but for the rest. This is the lowest core of which a commit failed, if one did.
+pub record Plays (super : Super) (start : State) (tree : FileTree) (Stand : List DiskView → Type 0) (Rounds : List Span → Type 0) (Fails : ℕ → Type 0) (before after : Outside) (failed : Option ℕ) (rest : List ℕ) : Type 0 where
   pub read : List ℕ
   pub lines : List Line
   pub played : List Played
@@ -67,7 +68,8 @@ pub record Plays (super : Super) (start : State) (tree : FileTree) (Stand : List
   pub fits_log : FitsLog super.sizes super.tails start [] (standing_at super.tails) played history
   pub run : IsRun super.sizes tree played
   pub round : Rounds spans
-  pub recovers : (disks : List DiskView) → Stand disks → CrashesRecover disks spans super.sizes super.tails start tree run.calls run.replies history
+  pub recovers : (disks : List DiskView) → Stand disks → CrashesRecover disks spans super.sizes super.tails start tree run.calls run.replies played history
+  pub fails : (core : ℕ) → fails_in played core ≡ true → Fails core
   pub lowest : IsLowestFailed played failed
   pub text : written ++ rest ≡ flat_map answer_text (map answer_of played)
   pub took : Took before.held after.held written
@@ -85,15 +87,19 @@ pub record StopsEarly (before after : Outside) : Type 0 where
   pub reads : Reads before.left after.left read
   pub unwritten : IsUnwritten before after
 
--- How reading and playing a schedule ends, on an image whose blocks show a tree. A commit of a core failed only where its journal did.
+-- No line was begun.
+abbrev pub IsNotBegun : (List Span → Type 0) → Type 0
+IsNotBegun Rounds = (spans : List Span) → Rounds spans → ⊥
+
+-- How reading and playing a schedule ends, on an image whose blocks show a tree.
 abbrev pub ScriptEnds : Super → State → FileTree → (List DiskView → Type 0) → (List Span → Type 0) → (ℕ → Type 0) → Outside → Outside → Option Fault → Type 0
-ScriptEnds super start tree Stand Rounds Fails before after None = Plays super start tree Stand Rounds before after None [] × (after.input_faults ≡ before.input_faults) × (after.output_faults ≡ before.output_faults)
-ScriptEnds super start tree Stand Rounds Fails before after (Some (faults.Script kind line column)) = RefusesScript super.sizes.cores before after kind line column
+ScriptEnds super start tree Stand Rounds Fails before after None = Plays super start tree Stand Rounds Fails before after None [] × (after.input_faults ≡ before.input_faults) × (after.output_faults ≡ before.output_faults)
+ScriptEnds super start tree Stand Rounds Fails before after (Some (faults.Script kind line column)) = RefusesScript super.sizes.cores before after kind line column × IsNotBegun Rounds
 ScriptEnds super start tree Stand Rounds Fails before after (Some (faults.Device (devices.Journal core))) =
-    ((rest : List ℕ) × Plays super start tree Stand Rounds before after (Some core) rest × ((rest ≡ []) ⊎ Rose before.output_faults after.output_faults)) × Fails core
+    (rest : List ℕ) × Plays super start tree Stand Rounds Fails before after (Some core) rest × ((rest ≡ []) ⊎ Rose before.output_faults after.output_faults)
 ScriptEnds super start tree Stand Rounds Fails before after (Some faults.Memory) = StopsEarly before after
-ScriptEnds super start tree Stand Rounds Fails before after (Some faults.Input) = StopsEarly before after × Rose before.input_faults after.input_faults
-ScriptEnds super start tree Stand Rounds Fails before after (Some faults.Output) = ((rest : List ℕ) × Plays super start tree Stand Rounds before after None rest) × Rose before.output_faults after.output_faults
+ScriptEnds super start tree Stand Rounds Fails before after (Some faults.Input) = StopsEarly before after × Rose before.input_faults after.input_faults × IsNotBegun Rounds
+ScriptEnds super start tree Stand Rounds Fails before after (Some faults.Output) = ((rest : List ℕ) × Plays super start tree Stand Rounds Fails before after None rest) × Rose before.output_faults after.output_faults
 ScriptEnds super start tree Stand Rounds Fails before after (Some fault) = ⊥
 
 -- The image on the shelf shows a tree, and playing a schedule from it on ended so. Mounting it was a phase, and so was the round of its lines,
@@ -110,7 +116,7 @@ pub record PlaysFrom (before after : Outside) (phases : List Phase) (fault : Opt
 abbrev pub IsUnread : Outside → Outside → Type 0
 IsUnread before after = (after.left ≡ before.left) × IsUnwritten before after
 
--- The image was not mounted: it was not opened, and there is no phase; or it was, and the mount is one.
+-- The image was not mounted, and no stream was touched: there is no phase; or the image was opened, and there is a mount alone.
 abbrev pub IsUnmounted : Outside → Outside → List Phase → Type 0
 IsUnmounted before after phases = IsUnread before after × ((phases ≡ []) ⊎ ((super : Super) × HasHome before.names super × ArePhases super.sizes.cores (AreUnder super.sizes.cores after.names) phases × (length phases ≡ 1)))
 
@@ -131,28 +137,40 @@ PlayEnds before after phases (Some (faults.Device device)) = (IsMountDeviceCause
 PlayEnds before after phases (Some faults.Memory) = StopsEarly before after
 PlayEnds before after phases (Some fault) = PlaysFrom before after phases (Some fault)
 
--- Where lines were begun: there are lines that were played; they, their answers and one history from the image's blocks on fit; and each
--- crash within the round recovers to a cut of that history. That they are those of the input is said by `Plays` alone.
-pub record LeavesCuts (super : Super) (start : State) (tree : FileTree) (Stand : List DiskView → Type 0) (spans : List Span) : Type 0 where
+-- Where lines were begun: what was read is a schedule for an image, whose acts are built, and its first lines, or all, were played; they, their answers and one
+-- history from the image's blocks on fit; and each crash within the round recovers to a cut of that history.
+pub record LeavesCuts (super : Super) (start : State) (tree : FileTree) (Stand : List DiskView → Type 0) (left now : Option (List ℕ)) (spans : List Span) : Type 0 where
+  pub read : List ℕ
+  pub lines : List Line
+  pub rest : List Line
   pub played : List Played
   pub history : List Operation
+  pub input : ReadsInput left now read
+  pub is_schedule : IsSchedule super.sizes.cores read lines
+  pub built : AreBuilt lines
+  pub front : map (λ p. p.0) played ++ rest ≡ lines
   pub fit : Fit super.sizes start [] played history
   pub fits_log : FitsLog super.sizes super.tails start [] (standing_at super.tails) played history
   pub run : IsRun super.sizes tree played
-  pub recovers : (disks : List DiskView) → Stand disks → CrashesRecover disks spans super.sizes super.tails start tree run.calls run.replies history
+  pub recovers : (disks : List DiskView) → Stand disks → CrashesRecover disks spans super.sizes super.tails start tree run.calls run.replies played history
 
 -- What a round leaves of an image that stood on the shelf, whichever fault it ended with, also where memory ran out.
 abbrev pub LeavesImage : Outside → Outside → List Span → Type 0
-LeavesImage before after spans = (super : Super) × (start : State) × (tree : FileTree) × Mounts before.names super start tree × LeavesCuts super start tree (AreUnder super.sizes.cores after.names) spans
+LeavesImage before after spans = (super : Super) × (start : State) × (tree : FileTree) × Mounts before.names super start tree × LeavesCuts super start tree (AreUnder super.sizes.cores after.names) before.left after.left spans
 
 -- There is no phase, and each device was only read; or an image was opened, and these are its phases.
 abbrev pub PhasesTold : Outside → Outside → List Phase → Type 0
 PhasesTold before after phases = ((phases ≡ []) × AllBack before.names after.names) ⊎ ((super : Super) × HasHome before.names super × ArePhases super.sizes.cores (AreUnder super.sizes.cores after.names) phases)
 
--- What `play` does: however it ends, each device stands again where it stood. Home was only read and synced, and journals went on. The
+-- Each journal that is in none of these phases stands again where it stood, and was only read.
+abbrev pub OthersAreBack : ShelfView → ShelfView → List Phase → Type 0
+OthersAreBack before after phases = (core : ℕ) → core < MAX_CORES → All (λ phase. phase.devices ≤ core + 1) phases → IsBack (before (journal_name core)) (after (journal_name core))
+
+-- What `play` does: however it ends, each device stands again where it stood. Home was only read and synced, and the image's journals went on. The
 -- phases begin as the devices were opened; and where there was a round, each crash within it recovers to a cut, whichever fault it ended with.
 pub record RunsPlay (before after : Outside) (phases : List Phase) (fault : Option Fault) : Type 0 where
   pub back : AllBackAs Settles Continues before.names after.names
+  pub others : OthersAreBack before.names after.names phases
   pub phases_are : PhasesTold before after phases
   pub begins : PhasesBegin before.names after.names phases
   pub cuts : (spans : List Span) → HasRound phases spans → LeavesImage before after spans
@@ -167,10 +185,12 @@ IsInputCause cores left now old new faults.Memory = (read : List ℕ) × Reads l
 IsInputCause cores left now old new faults.Input = ((read : List ℕ) × Reads left now read) × Rose old new
 IsInputCause cores left now old new fault = ⊥
 
--- A service has played these lines, and its answers were written but for the rest. This is the lowest core of which a commit failed, if one did.
+-- A service has played these lines, and its answers were written but for the rest. This is the lowest core of which a commit failed, if one did;
+-- and each such core is one of the service's.
 pub record PlaysRound {D : Type 0} (view : D → DiskView) (old new : ServiceState D) (past : Past) (lines : List Line) (held now : Option (List ℕ)) (failed : Option ℕ) (rest : List ℕ) : Type 0 where
   pub answers : List Answer
   pub plays : PlaysLines view old new past lines [] answers
+  pub within : (core : ℕ) → fails_in plays.played core ≡ true → core < length old.cores
   pub lowest : IsLowestFailed plays.played failed
   pub written : List ℕ
   pub text : written ++ rest ≡ flat_map answer_text (map answer_of plays.played)
@@ -180,7 +200,7 @@ pub record PlaysRound {D : Type 0} (view : D → DiskView) (old new : ServiceSta
 abbrev pub RoundEnds : {D : Type 0} → (D → DiskView) → ServiceState D → ServiceState D → Past → List Line → Option (List ℕ) → Option (List ℕ) → ℕ → ℕ → Option Fault → Type 0
 RoundEnds view old new past lines held now faults_old faults_new None = PlaysRound view old new past lines held now None [] × (faults_new ≡ faults_old)
 RoundEnds view old new past lines held now faults_old faults_new (Some (faults.Device (devices.Journal core))) =
-    ((rest : List ℕ) × PlaysRound view old new past lines held now (Some core) rest × ((rest ≡ []) ⊎ Rose faults_old faults_new)) × (core < length old.cores)
+    (rest : List ℕ) × PlaysRound view old new past lines held now (Some core) rest × ((rest ≡ []) ⊎ Rose faults_old faults_new)
 RoundEnds view old new past lines held now faults_old faults_new (Some faults.Memory) = now ≡ held
 RoundEnds view old new past lines held now faults_old faults_new (Some faults.Output) = ((rest : List ℕ) × PlaysRound view old new past lines held now None rest) × Rose faults_old faults_new
 RoundEnds view old new past lines held now faults_old faults_new (Some fault) = ⊥

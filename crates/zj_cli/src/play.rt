@@ -96,7 +96,7 @@ fn play_set<D: Disk, S: Source, K: Sink>(
         (result_err result.1)))
         ⊎ (IfErr result.1 (λ fault. (told : MountFault) × (fault ≡ fault_of_mounting told) × IsMountCause D.view home.old.told home.old.device home.new.device areas.areas result.0.areas told) × (IsErr result.1) × (input.new ≡ input.old) × (out.new ≡ out.old) × (length phases.new.items ≡ 1)) }
     ensures begins { (first : Phase) (later : List Phase) → phases.new.items ≡ first ∷ later → map (λ s. s.from) (spans_in first) ≡ map (λ d. d.calls) (D.view home.old.device ∷ map (λ a. D.view a.device) areas.areas) }
-    ensures cuts { (spans : List Span) → HasRound phases.new.items spans → (start : State) × (tree : FileTree) × HasTree D.view home.old.told home.old.device areas.areas start tree × LeavesCuts home.old.told start tree (AreOf D.view home.new.device result.0.areas) spans }
+    ensures cuts { (spans : List Span) → HasRound phases.new.items spans → (start : State) × (tree : FileTree) × HasTree D.view home.old.told home.old.device areas.areas start tree × LeavesCuts home.old.told start tree (AreOf D.view home.new.device result.0.areas) (S.left input.old) (S.left input.new) spans }
     ensures unwritten { IfErr result.1 (λ fault. IsBeforeWriting tool.Play fault → out.new ≡ out.old) }
 {
     fit_is_run();

@@ -55,8 +55,7 @@ pub enum ImageFault {
         rule: u32,
         block: u32,
     },
-    /// The journal holds a record, and the image can't be played yet; or the image has that journal besides `j0`, and can't
-    /// be checked yet.
+    /// The journal holds a record, and the image can't be played yet.
     #[error("unbuilt {device}")]
     Unbuilt {
         device: Device,

@@ -26,8 +26,8 @@ use zj_script::read_number;
 /// and writes their answers to `out`. A commit writes the running transaction of its core to that core's journal; what was not
 /// committed is gone when it ends. Home is synced and read, and not written. It closes all that it opened. Reading ends at the byte
 /// that is one more than a schedule may have. Nothing is written to `out` unless the whole schedule was read and all its lines
-/// have run. Whatever a crash leaves of the devices at a moment of it, recovery leaves a tree that the calls could have made: the
-/// status tells the moments (`Phase`).
+/// have run. Whatever a crash leaves of the devices at a moment of the lines, recovery leaves a tree that the calls could have made, with
+/// all that was committed by then found: the status tells the moments (`Phase`).
 ///
 /// `check` opens the image on the shelf and writes to `out` what its journals hold and how large the tree is that is
 /// recovered; it reads no input and writes no device, and closes all that it opened.

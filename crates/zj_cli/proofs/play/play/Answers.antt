@@ -8,7 +8,7 @@ use Rattle.zj_cli.specs.Outside.{Outside}
 use Rattle.zj_cli.specs.Phases.{AreOf, AreUnder, HasRound, JournalFails}
 use Rattle.zj_cli.specs.Play.{PlayEnds}
 use Rattle.zj_cli.proofs.CheckLemmas.{close_cause, mount_cause, mounts_tree, rose_under}
-use Rattle.zj_cli.proofs.CutLemmas.{begins_told, cuts_under, none_begin, none_round}
+use Rattle.zj_cli.proofs.CutLemmas.{begins_told, cuts_under, foreign_back, none_begin, none_round, others_told}
 use Rattle.zj_cli.proofs.Ends.{if_err, on_ok, told_failed, told_quiet}
 use Rattle.zj_cli.proofs.PlayLemmas.{early, play_ends, unopened}
 use Rattle.zj_cli.proofs.SessionLemmas.{as_many}
@@ -30,6 +30,7 @@ returns-in_err-home-clause-runs g c =
     let none = c.reserve.ensures.items ∙ c.requires.none in
     record {
       back = only_read before now c.in_err-home.ensures.back;
+      others = λ core fits past. c.in_err-home.ensures.back.journals core fits;
       phases_are = inl (none, c.in_err-home.ensures.back);
       begins = none_begin before now c.reserve.new.self.items none;
       cuts = λ spans has. absurd (none_round c.reserve.new.self.items spans none has);
@@ -60,6 +61,8 @@ returns-clause-runs g c =
     let after : Outside = record { left = g.S.Source.left c.play_set-areas.new.input; held = g.K.Sink.held c.play_set-areas.new.out; names = now; input_faults = g.S.Source.faults c.play_set-areas.new.input; output_faults = g.K.Sink.faults c.play_set-areas.new.out; shelf_faults = g.H.Shelf.faults c.close_all.new.shelf } in
     record {
       back = all_back view before mid now (view d) (view d') old new opened.out closes played.journals played.home;
+      others = others_told super.sizes.cores (AreUnder super.sizes.cores now) before now phases are_phases
+          (λ core fits past. foreign_back view before mid now (view d) (view d') old new opened.out closes played.journals core fits (omega (arith, past, opened.in_order.many)));
       phases_are = inr (super, opened.home, are_phases);
       begins = begin;
       cuts = λ spans has.
@@ -68,7 +71,7 @@ returns-clause-runs g c =
             left.0,
             left.1,
             mounts_tree view before mid now (view d) (view d') old new super opened.out again opened.in_order opened.home opened.journals d left.0 left.1 refl left.2,
-            cuts_under super left.0 left.1 (AreOf view d' new) (AreUnder super.sizes.cores now) spans to left.3,
+            cuts_under super left.0 left.1 (AreOf view d' new) (AreUnder super.sizes.cores now) outside.left after.left spans to left.3,
           );
       ends = subst (λ fault. PlayEnds outside after phases fault) (sym (ap (λ r. result_err r) c.and.ensures)) (play_ends outside after phases c.play_set-areas.result.1 c.map_err-closed.result
           (elim played.ends [
@@ -78,8 +81,9 @@ returns-clause-runs g c =
               tree = from.1;
               mounts = mounts_tree view before mid now (view d) (view d') old new super opened.out again opened.in_order opened.home opened.journals d from.0 from.1 refl from.2;
               phases_are = are_phases;
-              script = script_under super from.0 from.1 (AreOf view d' new) (AreUnder super.sizes.cores now) (HasRound phases) outside after to (JournalFails view old new) (λ core. RoseUnder (before (journal_name core)) (now (journal_name core))) (result_err c.play_set-areas.result.1)
+              script = script_under super from.0 from.1 (AreOf view d' new) (AreUnder super.sizes.cores now) (HasRound phases) (JournalFails view old new) (λ core. RoseUnder (before (journal_name core)) (now (journal_name core))) outside after to
                   (λ core fails. (rose_under view before mid now (view d) (view d') old new super opened.out again opened.in_order opened.home opened.journals core fails).1)
+                  (result_err c.play_set-areas.result.1)
                   (from.3 before now (g.H.Shelf.faults c.args.shelf.now) (g.H.Shelf.faults c.close_all.new.shelf));
             })
             | inr none ↦ inr (

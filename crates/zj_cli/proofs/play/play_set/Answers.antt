@@ -19,10 +19,10 @@ use Rattle.zj_cli.specs.declared.phase.Phase.{Phase}
 use Rattle.zj_cli.specs.Outside.{Outside}
 use Rattle.zj_cli.specs.Phases.{AreMoments, AreOf, ArePhases, DevicesGoOn, HasRound, JournalFails, spans_in}
 use Rattle.zj_cli.specs.Play.{IsInputCause, LeavesCuts, ScriptEnds}
-use Rattle.zj_cli.proofs.PhaseLemmas.{begins_with, first_is, no_round, one_phase, round_is, two_phases}
+use Rattle.zj_cli.proofs.PhaseLemmas.{begins_with, first_is, no_round, one_phase, round_is, settled_on, two_phases}
 use Rattle.zj_cli.proofs.PlayableLemmas.{left, playable}
 use Rattle.zj_cli.proofs.ReadyLemmas.{journals_ready}
-use Rattle.zj_cli.proofs.SessionLemmas.{as_many, cuts_of, go_on, input_ends, journal_fails, on_trans, rest_with_none, round_goes_on, script_ends, session_recovers, tails_are}
+use Rattle.zj_cli.proofs.SessionLemmas.{as_many, cuts_of, input_ends, journal_fails, on_trans, rest_with_none, round_goes_on, script_ends, session_recovers, tails_are}
 use Rattle.zj_cli.proofs.play.play_set.Goals as goal
 
 pub moments-ready-requires : goal.moments-ready-requires
@@ -43,7 +43,7 @@ returns-in-Err-clause-journals g c =
     let same0 : c.moments-opened.new.areas.areas ≡ c.args.areas.areas = ap (λ (list : AreaList _). list.areas) c.moments-opened.ensures.same in
     let same1 : c.moments-ready.new.areas.areas ≡ c.prepare-prepared.new.areas.areas = ap (λ (list : AreaList _). list.areas) c.moments-ready.ensures.same in
     let settled : AreSettled g.D.Disk.view c.args.areas.areas c.moments-ready.new.areas.areas = subst (λ (areas : List (AreaView _)). AreSettled g.D.Disk.view c.args.areas.areas areas) (sym same1) (subst (λ (areas : List (AreaView _)). AreSettled g.D.Disk.view areas c.prepare-prepared.new.areas.areas) same0 c.prepare-prepared.ensures.settles) in
-    go_on g.D.Disk.view c.args.areas.areas c.moments-ready.new.areas.areas settled
+    settled_on g.D.Disk.view c.args.areas.areas c.moments-ready.new.areas.areas settled
 
 pub returns-in-Err-clause-phases : goal.returns-in-Err-clause-phases
 returns-in-Err-clause-phases g c =
@@ -63,7 +63,7 @@ returns-in-Err-clause-ends g c =
     let items : c.push_reserved.new.self.items ≡ c.new.result ∷ [] = c.push_reserved.ensures.items ∙ ap (λ (front : List Phase). front ++ c.new.result ∷ []) c.requires.none in
     let cause = rw same0 at c.in-Err.ensures.cause in
     elim cause [
-      | inl from ↦ inl (from.0, from.1, from.2, λ names now faults since. input_ends c.args.home.now.told from.0 from.1 (AreOf g.D.Disk.view c.prepare-prepared.new.home.device c.moments-ready.new.areas.areas) (HasRound c.push_reserved.new.self.items) (JournalFails g.D.Disk.view c.args.areas.areas c.moments-ready.new.areas.areas) (record { left = g.S.Source.left c.args.input.now; held = g.K.Sink.held c.args.out.now; names = names; input_faults = g.S.Source.faults c.args.input.now; output_faults = g.K.Sink.faults c.args.out.now; shelf_faults = faults }) (record { left = g.S.Source.left c.prepare-prepared.new.input; held = g.K.Sink.held c.args.out.now; names = now; input_faults = g.S.Source.faults c.prepare-prepared.new.input; output_faults = g.K.Sink.faults c.args.out.now; shelf_faults = since }) c.in-Err.fault from.3 refl)
+      | inl from ↦ inl (from.0, from.1, from.2, λ names now faults since. input_ends c.args.home.now.told from.0 from.1 (AreOf g.D.Disk.view c.prepare-prepared.new.home.device c.moments-ready.new.areas.areas) (HasRound c.push_reserved.new.self.items) (JournalFails g.D.Disk.view c.args.areas.areas c.moments-ready.new.areas.areas) (record { left = g.S.Source.left c.args.input.now; held = g.K.Sink.held c.args.out.now; names = names; input_faults = g.S.Source.faults c.args.input.now; output_faults = g.K.Sink.faults c.args.out.now; shelf_faults = faults }) (record { left = g.S.Source.left c.prepare-prepared.new.input; held = g.K.Sink.held c.args.out.now; names = now; input_faults = g.S.Source.faults c.prepare-prepared.new.input; output_faults = g.K.Sink.faults c.args.out.now; shelf_faults = since }) c.in-Err.fault (λ spans has. no_round c.push_reserved.new.self.items c.new.result spans items has) from.3 refl)
       | inr none ↦ inr ((none.0, none.1, subst (λ (areas : List (AreaView _)). IsMountCause g.D.Disk.view c.args.home.now.told c.args.home.now.device c.prepare-prepared.new.home.device c.args.areas.areas areas none.0) (sym same1) none.2), refl, none.3, refl, ap length items)
     ]
 
@@ -139,7 +139,7 @@ returns-in-Ok-start-clause-journals g c =
     let started : journals_of c.in-Ok-start.service.cores ≡ c.moments-ready.new.areas.areas = c.in-Ok-start.ensures.journals in
     let on : DevicesGoOn g.D.Disk.view c.moments-ready.new.areas.areas (journals_of c.play_round-played.new.service.cores) = subst (λ (areas : List (AreaView _)). DevicesGoOn g.D.Disk.view areas (journals_of c.play_round-played.new.service.cores)) started (round_goes_on g.D.Disk.view (journals_of c.in-Ok-start.service.cores) (journals_of c.play_round-played.new.service.cores) c.play_round-played.ensures.journals) in
     let same3 : c.moments-ended.new.areas.areas ≡ journals_of c.play_round-played.new.service.cores = ap (λ (list : AreaList _). list.areas) c.moments-ended.ensures.same ∙ c.end-areas.ensures in
-    subst (λ (areas : List (AreaView _)). DevicesGoOn g.D.Disk.view c.args.areas.areas areas) (sym same3) (on_trans g.D.Disk.view c.args.areas.areas c.moments-ready.new.areas.areas (journals_of c.play_round-played.new.service.cores) (go_on g.D.Disk.view c.args.areas.areas c.moments-ready.new.areas.areas settled) on)
+    subst (λ (areas : List (AreaView _)). DevicesGoOn g.D.Disk.view c.args.areas.areas areas) (sym same3) (on_trans g.D.Disk.view c.args.areas.areas c.moments-ready.new.areas.areas (journals_of c.play_round-played.new.service.cores) (settled_on g.D.Disk.view c.args.areas.areas c.moments-ready.new.areas.areas settled) on)
 
 pub returns-in-Ok-start-clause-phases : goal.returns-in-Ok-start-clause-phases
 returns-in-Ok-start-clause-phases g c =
@@ -222,7 +222,7 @@ returns-clause-journals g c =
     let same0 : c.moments-opened.new.areas.areas ≡ c.args.areas.areas = ap (λ (list : AreaList _). list.areas) c.moments-opened.ensures.same in
     let same1 : c.moments-ready.new.areas.areas ≡ c.prepare-prepared.new.areas.areas = ap (λ (list : AreaList _). list.areas) c.moments-ready.ensures.same in
     let settled : AreSettled g.D.Disk.view c.args.areas.areas c.moments-ready.new.areas.areas = subst (λ (areas : List (AreaView _)). AreSettled g.D.Disk.view c.args.areas.areas areas) (sym same1) (subst (λ (areas : List (AreaView _)). AreSettled g.D.Disk.view areas c.prepare-prepared.new.areas.areas) same0 c.prepare-prepared.ensures.settles) in
-    subst (λ (areas : List (AreaView _)). DevicesGoOn g.D.Disk.view c.args.areas.areas areas) (sym c.in-Err-start.ensures.err) (go_on g.D.Disk.view c.args.areas.areas c.moments-ready.new.areas.areas settled)
+    subst (λ (areas : List (AreaView _)). DevicesGoOn g.D.Disk.view c.args.areas.areas areas) (sym c.in-Err-start.ensures.err) (settled_on g.D.Disk.view c.args.areas.areas c.moments-ready.new.areas.areas settled)
 
 pub returns-clause-phases : goal.returns-clause-phases
 returns-clause-phases g c =
@@ -311,10 +311,10 @@ returns-in-Ok-start-clause-cuts g c =
       c.in-Ok.prepared.0.blocks,
       c.in-Ok.prepared.0.tree.tree,
       has,
-      subst (λ (s : List Span). LeavesCuts c.args.home.now.told c.in-Ok.prepared.0.blocks c.in-Ok.prepared.0.tree.tree (AreOf g.D.Disk.view c.play_round-played.new.home.device c.moments-ended.new.areas.areas) s) (round_is c.push_reserved-in-Ok-start.new.self.items c.new.result c.new-in-Ok-start.result spans items2 round)
+      subst (λ (s : List Span). LeavesCuts c.args.home.now.told c.in-Ok.prepared.0.blocks c.in-Ok.prepared.0.tree.tree (AreOf g.D.Disk.view c.play_round-played.new.home.device c.moments-ended.new.areas.areas) (g.S.Source.left c.args.input.now) (g.S.Source.left c.prepare-prepared.new.input) s) (round_is c.push_reserved-in-Ok-start.new.self.items c.new.result c.new-in-Ok-start.result spans items2 round)
           (cuts_of g.D.Disk.view c.args.home.now.told c.in-Ok.prepared.0.blocks c.in-Ok.prepared.0.tree.tree c.in-Ok-start.service c.play_round-played.new.service c.moments-ready.new.areas.areas c.in-Ok.prepared.1 (AreOf g.D.Disk.view c.play_round-played.new.home.device c.moments-ended.new.areas.areas)
           sized held tails has.shows c.fit_is_run.ensures (spans_in c.new-in-Ok-start.result)
           (session_recovers c.round_recovers.ensures g.D.Disk.view c.args.home.now.told c.in-Ok.prepared.0.blocks c.in-Ok.prepared.0.tree.tree c.play_round-played.new.service.cache c.play_round-played.new.service.cores c.moments-ready.new.areas.areas c.moments-ended.new.areas.areas c.args.home.now.device c.play_round-played.new.home.device c.new-in-Ok-start.result c.moments-ready.result c.moments-ended.result
           then_sized then_held tails same3 c.new-in-Ok-start.ensures.spans first final many (omega (arith, round_devices, count)) quiet read has.held has.shows)
-          played.0 played.1 played.2),
+          (g.S.Source.left c.args.input.now) (g.S.Source.left c.prepare-prepared.new.input) schedule.0 schedule.1 schedule.2 c.in-Ok.ensures.built played.0 played.1 played.2),
     )
