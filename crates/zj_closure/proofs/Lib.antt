@@ -1,3 +1,4 @@
+pub mod Bare
 pub mod BoundLists
 pub mod Keeping
 pub mod Growth

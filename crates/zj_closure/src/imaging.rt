@@ -9,7 +9,7 @@ ghost use Rattle.zj_tx.specs.Record.{Ascends};
 use crate::closing::bound_of;
 use std::alloc::{AllocError, Global};
 use std::marker::Model;
-use zj_block::{Block, BlockNo, Bounds};
+use zj_block::{Block, BlockNo, Bounds, Stamp};
 use zj_tx::{Found, Part, Sealed, parts};
 
 /// The newest images of blocks, by ascending block.
@@ -31,6 +31,23 @@ impl Model for Images {
 }
 
 impl Images {
+    /// No image yet. It takes no memory.
+    pub fn new(alloc: Global) -> Images
+        ensures { result ≡ [] }
+    {
+        Images {
+            images: Vec::new(alloc),
+        }
+    }
+
+    /// Adds what the records of one core below a bound have of each block: a newer image in place of an older one. Where two
+    /// stamps are equal, the image that was there first stays. After an `Err` some of them were added.
+    pub fn add(&mut self, found: &Found, bound: u64) -> Result<(), AllocError>
+        ensures { OnOk result (HasNewestOf self.old self.new (records_below bound found.now)) }
+    {
+        add_core(&mut self.images, found, bound)
+    }
+
     /// How many blocks have an image.
     pub fn len(&self) -> usize
         ensures len { result ≡ length self.now }
@@ -55,16 +72,27 @@ impl Images {
     }
 }
 
-/// Puts a block in where it is newer than the one with its number.
-fn put_newer(images: &mut Vec<Part>, part: Part) -> Result<(), AllocError>
+/// Puts an image in where it is newer than the one of its block.
+fn put_newer(
+    images: &mut Vec<Part>,
+    block: BlockNo,
+    stamp: Stamp,
+    image: &Block,
+) -> Result<(), AllocError>
     requires { Ascends 0 images.old.items }
-    ensures ok { OnOk result (HasNewer images.old.items images.new.items part) }
+    ensures ok { OnOk result (HasNewer images.old.items images.new.items (record { block = block; stamp = stamp; image = image.now })) }
+    ensures ascending { Ascends 0 images.new.items }
 {
-    if let Some(older) = parts::find(images, part.block.0) {
-        if part.stamp.0 <= older.stamp.0 {
+    if let Some(older) = parts::find(images, block.0) {
+        if stamp.0 <= older.stamp.0 {
             return Ok(());
         }
     }
+    let part = Part {
+        block,
+        stamp,
+        image: *image,
+    };
     parts::put(images, part)
 }
 
@@ -72,23 +100,19 @@ fn put_newer(images: &mut Vec<Part>, part: Part) -> Result<(), AllocError>
 fn add_part(images: &mut Vec<Part>, sealed: &Sealed, i: usize) -> Result<(), AllocError>
     requires { Ascends 0 images.old.items }
     ensures ok { OnOk result (IfSome (slice_get sealed.now.parts i) (HasNewer images.old.items images.new.items)) }
-    ensures ascending { OnOk result (Ascends 0 images.new.items) }
+    ensures ascending { Ascends 0 images.new.items }
 {
-    let Some((block, stamp, image)) = sealed.image(i) else {
-        return Ok(());
-    };
-    let part = Part {
-        block,
-        stamp,
-        image: *image,
-    };
-    put_newer(images, part)
+    match sealed.image(i) {
+        Some((block, stamp, image)) => put_newer(images, block, stamp, image),
+        None => Ok(()),
+    }
 }
 
 /// Adds what a record has of each block.
 fn add_record(images: &mut Vec<Part>, sealed: &Sealed) -> Result<(), AllocError>
     requires { Ascends 0 images.old.items }
     ensures ok { OnOk result (HasNewestOf images.old.items images.new.items (sealed.now ∷ [])) }
+    ensures ascending { Ascends 0 images.new.items }
 {
     for i in 0..sealed.len() {
         add_part(images, sealed, i)?;
@@ -100,6 +124,7 @@ fn add_record(images: &mut Vec<Part>, sealed: &Sealed) -> Result<(), AllocError>
 fn add_below(images: &mut Vec<Part>, sealed: &Sealed, bound: u64) -> Result<(), AllocError>
     requires { Ascends 0 images.old.items }
     ensures ok { OnOk result (HasNewestOf images.old.items images.new.items (records_below bound (sealed.now ∷ []))) }
+    ensures ascending { Ascends 0 images.new.items }
 {
     if sealed.number() >= bound {
         return Ok(());
@@ -111,7 +136,7 @@ fn add_below(images: &mut Vec<Part>, sealed: &Sealed, bound: u64) -> Result<(), 
 fn add_found(images: &mut Vec<Part>, found: &Found, i: usize, bound: u64) -> Result<(), AllocError>
     requires { Ascends 0 images.old.items }
     ensures ok { OnOk result (IfSome (slice_get found.now i) (λ r. HasNewestOf images.old.items images.new.items (records_below bound (r ∷ [])))) }
-    ensures ascending { OnOk result (Ascends 0 images.new.items) }
+    ensures ascending { Ascends 0 images.new.items }
 {
     let Some(sealed) = found.at(i) else {
         return Ok(());
@@ -123,6 +148,7 @@ fn add_found(images: &mut Vec<Part>, found: &Found, i: usize, bound: u64) -> Res
 fn add_core(images: &mut Vec<Part>, found: &Found, bound: u64) -> Result<(), AllocError>
     requires { Ascends 0 images.old.items }
     ensures ok { OnOk result (HasNewestOf images.old.items images.new.items (records_below bound found.now)) }
+    ensures ascending { Ascends 0 images.new.items }
 {
     for i in 0..found.len() {
         add_found(images, found, i, bound)?;
@@ -136,9 +162,9 @@ pub fn newest(alloc: Global, found: &[Found], kept: &Bounds) -> Result<Images, A
     requires { length found.now ≤ 64 }
     ensures { IfOk result (λ images. HasNewest images (kept_records found.now (slice_index kept.now))) }
 {
-    let mut images = Vec::new(alloc);
+    let mut images = Images::new(alloc);
     for (core, records) in found.iter().enumerate() {
-        add_core(&mut images, records, bound_of(kept, core as u32))?;
+        images.add(records, bound_of(kept, core as u32))?;
     }
-    Ok(Images { images })
+    Ok(images)
 }
