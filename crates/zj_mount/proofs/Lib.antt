@@ -1,4 +1,5 @@
 pub mod CloseLemmas
+pub mod GatherLemmas
 pub mod InspectLemmas
 pub mod MountLemmas
 pub mod OpenLemmas

@@ -1,4 +1,5 @@
 pub mod Areas
+pub mod Gathering
 pub mod Image
 pub mod Inspecting
 pub mod Lending

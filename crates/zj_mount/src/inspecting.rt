@@ -1,25 +1,25 @@
 //! The inspection of an image that was opened, whose journals may hold records.
 
-ghost use Rattle.std.specs.Prelude.{◌≡◌, ◌-◌, ◌^◌, ◌<◌, ◌≤◌, ℕ, All, Some, IfOk, IfErr, IfSome, List, OnOk, length, map, slice_get, slice_index, slice_set, true};
+ghost use Rattle.std.specs.Prelude.{◌≡◌, ◌-◌, ◌<◌, ◌≤◌, ℕ, All, Some, IfOk, IfErr, IfSome, List, OnOk, length, map, slice_get, slice_index, slice_set};
 ghost use Rattle.zj_block.specs.Block.{IsContent};
 ghost use Rattle.zj_block.specs.declared.sizes.TheConstants.{MAX_CORES};
 ghost use Rattle.zj_closure.specs.Found.{tail_of};
-ghost use Rattle.zj_closure.specs.Kept.{AreKept};
 ghost use Rattle.zj_closure.specs.Newest.{HasNewest};
-ghost use Rattle.zj_closure.specs.Recovered.{kept_records, recovered};
+ghost use Rattle.zj_closure.specs.Recovered.{recovered};
 ghost use Rattle.zj_dev.specs.Disk.{OnlyReads};
 ghost use Rattle.zj_layout.specs.Shows.{Shows, limits_of};
-ghost use Rattle.zj_mount.specs.Inspecting.{AreAllReady, AreFound, AreJournals, AreOnlyRead, HomeHolds, Inspects, IsFindCause, IsInspectCause, IsOnlyRead, IsOneCause, IsRecoverCause, JournalHolds, tally_of};
+ghost use Rattle.zj_mount.specs.Inspecting.{AreAllReady, AreJournals, AreOnlyRead, HomeHolds, Inspects, IsInspectCause, IsRecoverCause, tally_of};
 ghost use Rattle.zj_tx.specs.Record.{Record};
 
 use crate::fault::MountFault;
+use crate::gathering::{bound_of, gather_kept};
 use crate::mounting::read_blocks;
 use crate::recovered::{Recovered, Tally};
 use std::alloc::{AllocError, Global};
-use zj_area::{Journal, ScanFault};
-use zj_block::{Blocks, Bounds, Tails};
-use zj_closure::{Images, closed, newest};
-use zj_dev::{Device, Disk};
+use zj_area::Journal;
+use zj_block::{Blocks, Bounds};
+use zj_closure::Images;
+use zj_dev::Disk;
 use zj_home::Home;
 use zj_layout::read_tree;
 use zj_tree::Tree;
@@ -52,98 +52,27 @@ pub fn inspect<D: Disk, J: Journal>(
     ensures home_read { OnlyReads (D.view home.old.device) (D.view home.new.device) }
     ensures read { AreOnlyRead (map J.journal journals.old) (map J.journal journals.new) }
 {
-    let found = find_all(alloc, journals)?;
-    let kept = kept_of(home, &found);
-    let (blocks, tree) = recover(alloc, home, &found, &kept)?;
-    let tallies = tallies_of(alloc, home, &found, &kept)?;
+    let gathered = gather_kept(alloc, home, journals)?;
+    let (blocks, tree) = recover(alloc, home, &gathered.images)?;
+    let tallies = tallies_of(alloc, home, &gathered.heads, &gathered.kept)?;
     Ok(Recovered::new(*home.sizes(), tallies, blocks, tree))
 }
 
-/// The records that each journal holds, in the order of the cores.
-fn find_all<J: Journal>(alloc: Global, journals: &mut [J]) -> Result<Vec<Found>, MountFault>
-    requires { length journals.old ≤ MAX_CORES }
-    ensures many { IfOk result (λ found. length found.items ≡ length journals.old) }
-    ensures found { IfOk result (λ found. AreFound (map J.journal journals.old) found.items (length journals.old)) }
-    ensures ready { OnOk result (AreAllReady (map J.journal journals.new) (length journals.old)) }
-    ensures cause { IfErr result (IsFindCause (map J.journal journals.old) (map J.journal journals.new)) }
-    ensures read { AreOnlyRead (map J.journal journals.old) (map J.journal journals.new) }
-{
-    let mut found = Vec::new(alloc);
-    for (core, journal) in journals.iter_mut().enumerate() {
-        found.reserve(1)?;
-        let records = find_one(journal, core as u32)?;
-        found.push(records).unwrap();
-    }
-    Ok(found)
-}
-
-/// The records that the journal of a core holds.
-fn find_one<J: Journal>(journal: &mut J, core: u32) -> Result<Found, MountFault>
-    ensures found { IfOk result (JournalHolds (J.journal journal.old)) }
-    ensures ready { OnOk result ((J.journal journal.new).ready ≡ true) }
-    ensures read { IsOnlyRead (J.journal journal.old) (J.journal journal.new) }
-    ensures cause { IfErr result (IsOneCause core (J.journal journal.old) (J.journal journal.new)) }
-{
-    let device = Device::Journal(core);
-    match journal.found() {
-        Ok(found) => Ok(found),
-        Err(ScanFault::DiskFault) => Err(MountFault::DiskFault { device }),
-        Err(
-            ScanFault::Damaged {
-                at,
-                found,
-                expected,
-            },
-        ) => Err(MountFault::Damaged {
-            device,
-            at,
-            found,
-            expected,
-        }),
-        Err(ScanFault::NoMemory) => Err(MountFault::NoMemory),
-    }
-}
-
-/// The greatest consistent cut of what was found.
-fn kept_of<D: Disk>(home: &Home<D>, found: &[Found]) -> Bounds
-    requires { length found.now ≡ home.now.told.sizes.cores }
-    ensures { AreKept (tail_of home.now.told.tails) found.now (slice_index result) }
-{
-    closed(home.sizes(), &tails_of(home), found)
-}
-
-/// The tails of a home, and 0 from its count of cores on.
-fn tails_of<D: Disk>(home: &Home<D>) -> Tails
-    ensures tails { (core : ℕ) → tail_of result core ≡ tail_of home.now.told.tails core }
-    ensures early { (core : ℕ) → tail_of result core < 2 ^ 62 }
-{
-    let _first = home.tail(0);
-    let mut tails = Tails::zero();
-    for core in 0..home.sizes().cores() {
-        let tail = home.tail(core).unwrap();
-        let _put = tails.put(core, tail);
-    }
-    tails
-}
-
-/// The blocks of home under the newest images of what is kept, and the tree that they show.
+/// The blocks of home under images, and the tree that they show.
 fn recover<D: Disk>(
     alloc: Global,
     home: &mut Home<D>,
-    found: &[Found],
-    kept: &Bounds,
+    images: &Images,
 ) -> Result<(Blocks, Tree), MountFault>
-    requires { length found.now ≤ MAX_CORES }
-    ensures recovered { IfOk result (λ read. (base : _) × HomeHolds home.old.told.sizes (D.view home.old.device) base × (read.0 ≡ recovered (kept_records found.now (slice_index kept.now)) base)) }
+    ensures recovered { (records : List Record) → HasNewest images.now records → IfOk result (λ read. (base : _) × HomeHolds home.old.told.sizes (D.view home.old.device) base × (read.0 ≡ recovered records base)) }
     ensures shows { IfOk result (λ read. Shows home.old.told.sizes read.0 read.1.tree) }
     ensures limits { IfOk result (λ read. read.1.limits ≡ limits_of home.old.told.sizes) }
-    ensures cause { IfErr result (IsRecoverCause home.old.told.sizes (D.view home.old.device) (D.view home.new.device) (kept_records found.now (slice_index kept.now))) }
+    ensures cause { (records : List Record) → HasNewest images.now records → IfErr result (IsRecoverCause home.old.told.sizes (D.view home.old.device) (D.view home.new.device) records) }
     ensures told { home.new.told ≡ home.old.told }
     ensures read { OnlyReads (D.view home.old.device) (D.view home.new.device) }
 {
-    let images = newest(alloc, found, kept)?;
     let mut blocks = read_blocks(alloc, home)?;
-    put_images(&mut blocks, &images);
+    put_images(&mut blocks, images);
     let tree = read_tree(alloc, home.sizes(), &blocks)?;
     Ok((blocks, tree))
 }
@@ -195,7 +124,7 @@ fn tally<D: Disk>(home: &Home<D>, core: u32, records: &Found, kept: &Bounds) -> 
     ensures { result ≡ record { from = tail_of home.now.told.tails core; found = length records.now; kept = slice_index kept.now core - tail_of home.now.told.tails core } }
 {
     let from = start_of(home, core);
-    let bound = kept.at(core).unwrap_or(0);
+    let bound = bound_of(kept, core);
     Tally {
         from,
         found: records.len() as u64,

@@ -21,6 +21,7 @@
 mod areas;
 mod closing;
 mod fault;
+mod gathering;
 mod inspecting;
 mod mounting;
 mod names;

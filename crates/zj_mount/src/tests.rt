@@ -346,6 +346,32 @@ fn inspects_what_is_kept(rt: HostRuntime) -> Result<(), Fail> {
     Ok(())
 }
 
+/// The journals are read once where all that they hold is kept, and else twice: core 1's fails with its second reading.
+#[test]
+fn reads_again_where_some_is_dropped(rt: HostRuntime) -> Result<(), Fail> {
+    let alloc = rt.alloc();
+    let good = home_bytes(&rt, alloc, &format(alloc, &sizes(&rt))?)?;
+    let one = record(alloc, 0, [0, 0], &[(40, 1, 10)])?;
+    let mut both = Vec::from_slice(alloc, &one)?;
+    both.extend_from_slice(&record(alloc, 1, [0, 2], &[(40, 9, 30)])?)?;
+    let second = journal_bytes(alloc, &record(alloc, 0, [1, 0], &[(40, 2, 20)])?)?;
+    let device = Device::Journal(1);
+    let table: [(&[u8], Option<MountFault>); 2] = [
+        (&one, None),
+        (&both, Some(MountFault::DiskFault { device })),
+    ];
+    for (front, fault) in table {
+        let first = journal_bytes(alloc, front)?;
+        let devices: [Given; 3] = [
+            ("home", &good, &[]),
+            ("j0", &first, &[]),
+            ("j1", &second, &[3]),
+        ];
+        assert_eq!(rt; inspecting(alloc, &devices)?.err(), fault);
+    }
+    Ok(())
+}
+
 /// A record that is kept takes the root away.
 #[test]
 fn inspects_what_shows_no_tree(rt: HostRuntime) -> Result<(), Fail> {

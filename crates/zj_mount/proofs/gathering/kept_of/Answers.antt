@@ -3,7 +3,7 @@ use Rattle.std.specs.Prelude.{slice_index}
 use Rattle.zj_history.specs.Transactions.{Bounds}
 use Rattle.zj_closure.specs.Found.{tail_of}
 use Rattle.zj_closure.specs.Kept.{AreKept}
-use Rattle.zj_mount.proofs.inspecting.kept_of.Goals as goal
+use Rattle.zj_mount.proofs.gathering.kept_of.Goals as goal
 
 pub returns : goal.returns
 returns g c =

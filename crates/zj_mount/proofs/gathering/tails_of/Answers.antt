@@ -6,7 +6,7 @@ use Rattle.zj_block.specs.Sizes.{Numbers}
 use Rattle.zj_closure.proofs.NewestLemmas.{at_some}
 use Rattle.zj_home.specs.Super.{IsTail}
 use Rattle.zj_mount.proofs.InspectLemmas.{copied_none, copied_more, put_is}
-use Rattle.zj_mount.proofs.inspecting.tails_of.Goals as goal
+use Rattle.zj_mount.proofs.gathering.tails_of.Goals as goal
 
 pub loop-core-init : goal.loop-core-init
 loop-core-init g c = rw c.zero-tails.ensures.zero (copied_none c.args.home.now.told.tails)

@@ -3,7 +3,7 @@ use Rattle.std.specs.Prelude.{slice_get}
 use Rattle.std.proofs.lemmas.Option.{slice_get-get_or}
 use Rattle.std.proofs.lemmas.Result.{err_from_is_err_and}
 use Rattle.zj_mount.proofs.InspectLemmas.{seen_here, seen_more, seen_stop}
-use Rattle.zj_mount.proofs.inspecting.find_all.Goals as goal
+use Rattle.zj_mount.proofs.gathering.find_all.Goals as goal
 
 pub returns-in_err-records-clause-cause : goal.returns-in_err-records-clause-cause
 returns-in_err-records-clause-cause g c =
