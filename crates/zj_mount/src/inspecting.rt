@@ -27,7 +27,8 @@ use zj_tx::Found;
 
 /// What an image holds whose journals, in the order of their cores, may hold records: reads each journal, keeps the greatest
 /// consistent cut of what was found, puts the newest images of the kept records over the blocks of home, and reads the tree
-/// that these show. It writes no device and syncs none, so what was pending on a device is pending still.
+/// that these show. It writes no device and syncs none, so what was pending on a device is pending still. The blocks of one
+/// journal are in memory at a time: where not all that was found is kept, the journals are read twice.
 ///
 /// `Damaged` names the first journal behind an open gate of which no record stands that is due, `DiskFault` the first journal
 /// whose device failed, or home, and `NoTree` the first rule that the recovered blocks break. `Unbuilt` never comes.
