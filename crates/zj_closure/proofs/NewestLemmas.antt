@@ -3,7 +3,7 @@ use Rattle.std.proofs.Common.{◌≡◌, ◌⊎◌, inl, inr, ℕ, zero, suc, �
 use Rattle.std.specs.Prelude.{find, slice_get, IfSome}
 use Rattle.std.specs.List.{fold, flat_map, range_with_len}
 use Rattle.std.specs.Option.{option_map}
-use Rattle.std.proofs.lemmas.Bool.{cases_eq}
+use Rattle.std.proofs.lemmas.Bool.{cases_eq, le-ltb}
 use Rattle.std.proofs.lemmas.Option.{same_Some}
 use Rattle.std.proofs.lemmas.List.Sums.{fold-append}
 use Rattle.std.proofs.lemmas.List.Elements.{filter-append}
@@ -98,6 +98,30 @@ part_more old mid new parts i p a e h before block = h.images block ∙ by (case
         ∙ sym (ap (newer (image_in old block)) (next.0 ∙ ap (λ t. cond t (Some (part_image p)) (image_in (take i parts) block)) (eq-eqb p.block.0 block is)))
     by (inr other) = ap (λ t. cond t (newer (image_in mid block) (Some (part_image p))) (image_in mid block)) (ne_eqb p.block.0 block other) ∙ before block
         ∙ sym (ap (newer (image_in old block)) (next.0 ∙ ap (λ t. cond t (Some (part_image p)) (image_in (take i parts) block)) (ne_eqb p.block.0 block other)))
+
+-- the image with a place
+image_at : (least : ℕ) (parts : List Part) (i : ℕ) (p : Part) → Ascends least parts → slice_get parts i ≡ Some p → (image_in parts p.block.0 ≡ Some (part_image p)) × (least ≤ p.block.0)
+image_at least [] i p a e = absurd cc
+image_at least (q ∷ parts) zero p a e =
+    let same : q ≡ p = same_Some q p e in
+    (image_in-cons q parts p.block.0 ∙ ap (λ b. cond b (Some (part_image q)) (image_in parts p.block.0)) (eq-eqb q.block.0 p.block.0 (ap (λ (x : Part). x.block.0) same)) ∙ ap (λ (x : Part). Some (part_image x)) same, subst (λ (x : Part). least ≤ x.block.0) same a.0)
+image_at least (q ∷ parts) (suc i) p a e =
+    let rest = image_at (q.block.0 + 1) parts i p a.1 e in
+    let above = rest.1 in
+    let low = a.0 in
+    (image_in-cons q parts p.block.0 ∙ ap (λ b. cond b (Some (part_image q)) (image_in parts p.block.0)) (ne_eqb q.block.0 p.block.0 (λ same. omega (arith, same, above))) ∙ rest.0, omega (arith, low, above))
+
+-- images that have a block as new as it is need no other
+pub none_newer : (images : List Part) (i : ℕ) (q p : Part) → Ascends 0 images → slice_get images i ≡ Some q → q.block.0 ≡ p.block.0 → p.stamp.0 ≤ q.stamp.0 → HasNewer images images p
+none_newer images i q p a e same late = record { images = λ block. sym (by block (cases_eq p.block.0 block)); ascending = a }
+  where
+    there : (block : ℕ) → p.block.0 ≡ block → image_in images block ≡ Some (part_image q)
+    there block is = subst (λ n. image_in images n ≡ Some (part_image q)) (same ∙ is) (image_at 0 images i q a e).0
+
+    by : (block : ℕ) → (p.block.0 ≡ block) ⊎ (p.block.0 ≡ block → ⊥) → cond (eqb p.block.0 block) (newer (image_in images block) (Some (part_image p))) (image_in images block) ≡ image_in images block
+    by block (inl is) = ap (λ t. cond t (newer (image_in images block) (Some (part_image p))) (image_in images block)) (eq-eqb p.block.0 block is)
+        ∙ ap (λ x. newer x (Some (part_image p))) (there block is) ∙ ap (λ b. cond b (Some (part_image p)) (Some (part_image q))) (le-ltb q.stamp.0 p.stamp.0 late) ∙ sym (there block is)
+    by block (inr other) = ap (λ t. cond t (newer (image_in images block) (Some (part_image p))) (image_in images block)) (ne_eqb p.block.0 block other)
 
 -- ---- more records
 

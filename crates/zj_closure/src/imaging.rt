@@ -1,6 +1,7 @@
 //! The newest images of what is kept.
 
-ghost use Rattle.std.specs.Prelude.{◌≡◌, ◌↔◌, ◌≤◌, [], ◌∷◌, IsTrue, OnOk, IfOk, IfSome, length, slice_get, slice_index};
+ghost use Rattle.std.specs.Prelude.{◌≡◌, ◌↔◌, ◌≤◌, [], ◌∷◌, ℕ, List, IsTrue, OnOk, IfOk, IfSome, length, slice_get, slice_index};
+ghost use Rattle.std.specs.Bool.{OnTrue};
 ghost use Rattle.std.specs.Option.{option_map};
 ghost use Rattle.zj_closure.specs.Newest.{HasNewer, HasNewest, HasNewestOf, block_content};
 ghost use Rattle.zj_closure.specs.Recovered.{kept_records, records_below};
@@ -96,26 +97,56 @@ fn put_newer(
     parts::put(images, part)
 }
 
-/// Adds the block with this place in a record.
-fn add_part(images: &mut Vec<Part>, sealed: &Sealed, i: usize) -> Result<(), AllocError>
+/// Whether the image with this place is one of a block that is no older than a stamp.
+fn has_as_new(images: &[Part], at: usize, block: BlockNo, stamp: Stamp) -> bool
+    requires { Ascends 0 images.now }
+    ensures { OnTrue result ((content : List ℕ) → HasNewer images.now images.now (record { block = block; stamp = stamp; image = content })) }
+{
+    let Some(part) = images.get(at) else {
+        return false;
+    };
+    if part.block.0 != block.0 {
+        return false;
+    }
+    if part.stamp.0 < stamp.0 {
+        return false;
+    }
+    true
+}
+
+/// Adds the block with this place in a record. Its image is looked for at a place first, and then by its number.
+fn add_part(images: &mut Vec<Part>, sealed: &Sealed, i: usize, at: usize) -> Result<(), AllocError>
     requires { Ascends 0 images.old.items }
     ensures ok { OnOk result (IfSome (slice_get sealed.now.parts i) (HasNewer images.old.items images.new.items)) }
     ensures ascending { Ascends 0 images.new.items }
 {
-    match sealed.image(i) {
-        Some((block, stamp, image)) => put_newer(images, block, stamp, image),
-        None => Ok(()),
+    let Some((block, stamp, image)) = sealed.image(i) else {
+        return Ok(());
+    };
+    if has_as_new(images, at, block, stamp) {
+        return Ok(());
+    }
+    put_newer(images, block, stamp, image)
+}
+
+/// The place of the first image that is not below a record's first block.
+fn first_place(images: &[Part], sealed: &Sealed) -> usize {
+    match sealed.image(0) {
+        Some((block, _, _)) => images.partition_point(|part| part.block.0 < block.0),
+        None => 0,
     }
 }
 
-/// Adds what a record has of each block.
+/// Adds what a record has of each block. A record's blocks often stand side by side in the images too: so each is looked for
+/// there first.
 fn add_record(images: &mut Vec<Part>, sealed: &Sealed) -> Result<(), AllocError>
     requires { Ascends 0 images.old.items }
     ensures ok { OnOk result (HasNewestOf images.old.items images.new.items (sealed.now ∷ [])) }
     ensures ascending { Ascends 0 images.new.items }
 {
+    let first = first_place(images, sealed);
     for i in 0..sealed.len() {
-        add_part(images, sealed, i)?;
+        add_part(images, sealed, i, first.saturating_add(i))?;
     }
     Ok(())
 }
