@@ -1,6 +1,7 @@
 #!/usr/bin/env python3
 """Measures commits a second of `zj play` beside a plain program that makes the same writes and two data syncs on a file of its own, in
-the same run; and `zj check` of eight full journals of 16,777,216 bytes beside `cat` of them.
+the same run; and `zj check` of eight full journals of 16,777,216 bytes beside `cat` of them, where all records are kept, and where the last
+one of each journal follows one that is missing, so that all journals are read twice.
 
     bench/commits.py PROGRAM
 
@@ -21,6 +22,7 @@ RUNS = 3
 AREA = 16_777_216
 LONGEST = 25_432
 FIRST_DATA = 2
+MISSING = 1_000_000  # more than a journal has
 
 
 def schedule():
@@ -67,18 +69,18 @@ def best(measured):
     return min(measured() for _ in range(RUNS))
 
 
-def full(blocks):
-    """A full journal of eight cores, and how many records it has."""
+def full(blocks, core, ahead):
+    """A full journal of a core of eight, and how many records it has: none follows another core, but the last one, so far."""
     content = [(block, 1, b"\x5a" * 512) for block in range(FIRST_DATA, FIRST_DATA + blocks)]
-    one = len(record(0, blocks=content, bounds=(0,) * 8))
-    count = (AREA - LONGEST) // one
-    return journal(b"".join(record(n, blocks=content, bounds=(0,) * 8) for n in range(count)), AREA), count
+    bounds = [(0,) * 8, tuple(ahead if other == (core + 1) % 8 else 0 for other in range(8))]
+    count = (AREA - LONGEST) // len(record(0, blocks=content, bounds=bounds[0]))
+    return journal(b"".join(record(n, blocks=content, bounds=bounds[n + 1 == count]) for n in range(count)), AREA), count
 
 
-def check(program, folder):
-    image, count = full(48)
-    write(folder, {"home": new_home(8, AREA), **{f"j{core}": image for core in range(8)}})
+def check(program, folder, ahead, words):
+    made = [full(48, core, ahead) for core in range(8)]
     names = [f"j{core}" for core in range(8)]
+    write(folder, {"home": new_home(8, AREA), **{name: image for name, (image, _) in zip(names, made)}})
 
     def timed(*words):
         begin = time.monotonic()
@@ -86,7 +88,7 @@ def check(program, folder):
         return time.monotonic() - begin
 
     told, read = best(lambda: timed(program, "check")), best(lambda: timed("cat", *names))
-    print(f"check of eight journals of {count} records: {told * 1000:.0f} ms; cat: {read * 1000:.0f} ms; {told / read:.1f} times")
+    print(f"check of eight journals of {made[0][1]} records, {words}: {told * 1000:.0f} ms; cat: {read * 1000:.0f} ms; {told / read:.1f} times")
 
 
 def main(program):
@@ -97,7 +99,8 @@ def main(program):
         ours, theirs = best(lambda: play(program, folder, lines)), best(lambda: plain(folder, length))
         count = COMMITS + 1
         print(f"{count / ours:,.0f} commits a second; {count / theirs:,.0f} by plain writes and syncs; {theirs / ours:.2f} of these")
-        check(program, folder)
+        check(program, folder, 0, "all kept")
+        check(program, folder, MISSING, "the last of each dropped")
 
 
 if __name__ == "__main__":
