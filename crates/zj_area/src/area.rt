@@ -128,7 +128,8 @@ impl<D: Disk> Area<D> {
 
     /// How many reads, writes and syncs were asked of the device: the moment that it is.
     pub fn calls(&self) -> u64
-        ensures { result ≡ (D.view self.now.device).calls }
+        ensures calls { result ≡ (D.view self.now.device).calls }
+        ensures is_disk { IsDisk (D.view self.now.device) }
     {
         self.device.calls()
     }

@@ -101,7 +101,7 @@ begins_told view before mid now d d' old new out few home on cores (first ∷ la
 
 -- ---- what a round leaves
 
-pub cuts_under : (super : Super) (start : State) (tree : FileTree) (Stand Under : List DiskView → Type 0) (left now : Option (List ℕ)) (spans : List Span) → ((disks : List DiskView) → Under disks → Stand disks) → LeavesCuts super start tree Stand left now spans → LeavesCuts super start tree Under left now spans
+unfoldable pub cuts_under : (super : Super) (start : State) (tree : FileTree) (Stand Under : List DiskView → Type 0) (left now : Option (List ℕ)) (spans : List Span) → ((disks : List DiskView) → Under disks → Stand disks) → LeavesCuts super start tree Stand left now spans → LeavesCuts super start tree Under left now spans
 cuts_under super start tree Stand Under left now spans to leaves = record {
   read = leaves.read;
   lines = leaves.lines;

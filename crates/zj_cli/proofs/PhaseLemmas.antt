@@ -6,7 +6,7 @@ use Rattle.std.proofs.lemmas.List.{get_or-set_other, length-set, length-map, tak
 use Rattle.std.proofs.lemmas.Simd.{map-map}
 use Rattle.std.proofs.lemmas.Option.{get_or_from_slice_get, slice_get-map, slice_get_within}
 use Rattle.zj_dev.specs.Crash.{LeavesIn}
-use Rattle.zj_dev.specs.Disk.{Continues, DiskView}
+use Rattle.zj_dev.specs.Disk.{Continues, DiskView, IsDisk}
 use Rattle.zj_dev.proofs.DiskLaws.{continues_refl}
 use Rattle.zj_area.specs.Journal.{AreaView}
 use Rattle.zj_mount.specs.Settling.{AreSettled, Settles}
@@ -14,7 +14,7 @@ use Rattle.zj_mount.proofs.ScanLemmas.{set_there, set_elsewhere}
 use Rattle.zj_dev.specs.declared.span.Span.{Span}
 use Rattle.zj_cli.specs.declared.phase.Phase.{Phase}
 use Rattle.zj_cli.specs.declared.phase.PhaseKind.TheVariants as kinds
-use Rattle.zj_cli.specs.Phases.{AreMoments, AreOf, ArePhases, DevicesGoOn, EndsWith, HasRound, IsBetween, IsHomeQuietIn, IsPhaseOf, IsStillIn, spans_in}
+use Rattle.zj_cli.specs.Phases.{AreDisks, AreMoments, AreOf, ArePhases, DevicesGoOn, EndsWith, HasRound, IsBetween, IsHomeQuietIn, IsPhaseOf, IsStillIn, spans_in}
 use Rattle.zj_cli.proofs.SpellLemmas.{none_there}
 
 -- the moments of home and of the first journals, so many
@@ -23,6 +23,7 @@ pub record AreMomentsTo {D : Type 0} (view : D → DiskView) (home : D) (areas :
   pub home_is : slice_get moments 0 ≡ Some (view home).calls
   pub journals_are : (core : ℕ) (area : AreaView D) → core < count → slice_get areas core ≡ Some area → slice_get moments (core + 1) ≡ Some (view area.device).calls
   pub behind : (place : ℕ) → count < place → slice_index moments place ≡ 0
+  pub disks : (core : ℕ) (area : AreaView D) → core < count → slice_get areas core ≡ Some area → IsDisk (view area.device)
   pub fits : (place moment : ℕ) → slice_get moments place ≡ Some moment → moment < 2 ^ 64
 
 module _ {D : Type 0} (view : D → DiskView) (home : D) (areas : List (AreaView D)) where
@@ -32,6 +33,7 @@ module _ {D : Type 0} (view : D → DiskView) (home : D) (areas : List (AreaView
     home_is = ap Some same;
     journals_are = λ core area below. absurd (omega (arith, below));
     behind = λ place past. get_or-set_other (replicate 65 0) 0 place calls 0 (λ e. omega (arith, e, past)) ∙ zeros 65 place;
+    disks = λ core area below. absurd (omega (arith, below));
     fits = small_at;
   }
     where
@@ -49,13 +51,14 @@ module _ {D : Type 0} (view : D → DiskView) (home : D) (areas : List (AreaView
       zeros (suc n) zero = refl
       zeros (suc n) (suc k) = zeros n k
 
-  pub one_more_told : (moments : List ℕ) (core calls : ℕ) (area : AreaView D) → core < 64 → slice_get areas core ≡ Some area → calls ≡ (view area.device).calls → calls < 2 ^ 64
+  pub one_more_told : (moments : List ℕ) (core calls : ℕ) (area : AreaView D) → core < 64 → slice_get areas core ≡ Some area → calls ≡ (view area.device).calls → IsDisk (view area.device) → calls < 2 ^ 64
       → AreMomentsTo view home areas moments core → AreMomentsTo view home areas (set moments (core + 1) calls) (core + 1)
-  one_more_told moments core calls area few here same small told = record {
+  one_more_told moments core calls area few here same is_disk small told = record {
     places = length-set moments (core + 1) calls ∙ told.places;
     home_is = set_elsewhere moments (core + 1) 0 calls (λ e. omega (arith, e)) ∙ told.home_is;
     journals_are = λ k a below at. by k a below at (cases_eq k core);
     behind = λ place past. get_or-set_other moments (core + 1) place calls 0 (λ e. omega (arith, e, past)) ∙ told.behind place (omega (arith, past));
+    disks = λ k a below at. disk_at k a below at (cases_eq k core);
     fits = λ place moment at. small_at place moment at (cases_eq place (core + 1));
   }
     where
@@ -68,6 +71,10 @@ module _ {D : Type 0} (view : D → DiskView) (home : D) (areas : List (AreaView
 
       other : (k : ℕ) → k < core + 1 → k ≢ core → k < core
       other k below ne = omega (arith, below, ne)
+
+      disk_at : (k : ℕ) (a : AreaView D) → k < core + 1 → slice_get areas k ≡ Some a → (k ≡ core) ⊎ (k ≢ core) → IsDisk (view a.device)
+      disk_at k a below at (inl e) = let one : area ≡ a = cc (at, here, e) in subst (λ (x : AreaView D). IsDisk (view x.device)) one is_disk
+      disk_at k a below at (inr ne) = told.disks k a (other k below ne) at
 
       by : (k : ℕ) (a : AreaView D) → k < core + 1 → slice_get areas k ≡ Some a → (k ≡ core) ⊎ (k ≢ core) → slice_get (set moments (core + 1) calls) (k + 1) ≡ Some (view a.device).calls
       by k a below at (inl e) =
@@ -91,6 +98,9 @@ module _ {D : Type 0} (view : D → DiskView) (home : D) (areas : List (AreaView
           unwrap : Option D → Option ℕ
           unwrap None = None
           unwrap (Some x) = Some (view x).calls
+
+  pub all_disks : (moments : List ℕ) (count : ℕ) → count ≡ length areas → AreMomentsTo view home areas moments count → AreDisks view areas
+  all_disks moments count all told core area here = told.disks core area (omega (arith, slice_get_within areas core area here, all)) here
 
 -- ---- lists
 

@@ -1,16 +1,16 @@
 -- A session over an image that was opened and mounted.
-use Rattle.std.proofs.Common.{◌≡◌, ◌⊎◌, ◌∙◌, inl, inr, zero, suc, ℕ, ◌+◌, ◌<◌, ◌≤◌, true, false, List, [], ◌∷◌, length, map, Option, Some, None, refl, sym, ap, subst, arith, append-nil}
+use Rattle.std.proofs.Common.{◌≡◌, ◌⊎◌, ◌∙◌, inl, inr, zero, suc, ℕ, ◌+◌, ◌<◌, ◌≤◌, true, false, List, [], ◌∷◌, length, map, Option, Some, None, refl, sym, ap, subst, arith}
 use Rattle.std.specs.Prelude.{IfSome, IsSomeAnd, MatchOption, option_map, slice_get, slice_index}
 use Rattle.std.proofs.lemmas.Bool.{cases_lt}
 use Rattle.std.proofs.lemmas.List.{length-map}
 use Rattle.std.proofs.lemmas.Option.{get_or_from_slice_get, slice_get-map, slice_get_past, slice_get_within}
 use Rattle.std.proofs.lemmas.Simd.{map-map}
-use Rattle.zj_dev.specs.Crash.{LeavesIn}
+use Rattle.zj_dev.specs.Crash.{FailsIn, LeavesIn}
 use Rattle.zj_dev.specs.Disk.{Continues, DiskView, IsSettled}
 use Rattle.zj_dev.specs.Fault.{Rose}
 use Rattle.zj_dev.specs.declared.device.Device.TheVariants as devices
 use Rattle.zj_dev.specs.declared.span.Span.{Span}
-use Rattle.zj_dev.proofs.DiskLaws.{continues_trans, rose_since}
+use Rattle.zj_dev.proofs.DiskLaws.{continues_trans, fails_since, rose_since}
 use Rattle.zj_block.specs.declared.numbers.Tail.{Tail}
 use Rattle.zj_block.specs.Sizes.{Numbers}
 use Rattle.zj_home.specs.Super.{Super}
@@ -46,7 +46,7 @@ use Rattle.zj_cli.specs.declared.status.Fault.{Fault}
 use Rattle.zj_cli.specs.declared.status.Fault.TheVariants as faults
 use Rattle.zj_cli.specs.Asked.{AreBuilt}
 use Rattle.zj_cli.specs.Outside.{IsUnwritten, Outside}
-use Rattle.zj_cli.specs.Phases.{AreMoments, AreOf, DevicesGoOn, EndsWith, IsBetween, JournalFails, spans_in}
+use Rattle.zj_cli.specs.Phases.{AreDisks, AreMoments, AreOf, DevicesGoOn, EndsWith, IsBetween, JournalFails, JournalFailsIn, spans_in}
 use Rattle.zj_cli.specs.Play.{IsInputCause, LeavesCuts, Plays, PlaysRound, ReadsInput, RoundEnds, ScriptEnds}
 use Rattle.zj_cli.proofs.PhaseLemmas.{at_core, ends_with, from_at, of_take, same_lists, to_at}
 use Rattle.zj_cli.proofs.SpellLemmas.{none_there}
@@ -159,6 +159,36 @@ journal_fails {D = D} view areas old new core settled on below rose =
     by (Some a) (Some c) None e e' settles goes = absurd goes
     by (Some a) (Some c) (Some c') e e' settles goes = rose_since (view a.device).faults (view c.area.device).faults (view c'.area.device).faults settles.goes_on.no_fewer (rose c c' e e')
 
+-- and it failed in the round
+pub fails_in_round : {D : Type 0} (view : D → DiskView) (d : D) (old new : List (CoreState D)) (areas areas' : List (AreaView D)) (round : Phase) (ready ended : List ℕ) → journals_of old ≡ areas → areas' ≡ journals_of new
+    → IsBetween ready ended round → AreMoments view d (map (λ (a : AreaView D). a.device) areas) ready → AreMoments view d (map (λ (a : AreaView D). a.device) (journals_of new)) ended
+    → AreDisks view areas → AreDisks view (journals_of new) → JournalsGoOn view (journals_of old) (journals_of new)
+    → (disks : List DiskView) → AreOf view d areas' disks → (core : ℕ) → core < length old
+    → ((a b : CoreState D) → slice_get old core ≡ Some a → slice_get new core ≡ Some b → Rose (view a.area.device).faults (view b.area.device).faults) → JournalFailsIn disks (spans_in round) core
+fails_in_round {D = D} view d old new areas areas' round ready ended start end between first last were are_disks on disks are core below rose disk span at here =
+    let old_at = slice_get-map (λ (c : CoreState D). c.area) old core in
+    let new_at = slice_get-map (λ (c : CoreState D). c.area) new core in
+    by (slice_get old core) (slice_get new core) refl refl (rw (old_at, new_at) at (on core))
+  where
+    by : (c c' : Option (CoreState D)) → slice_get old core ≡ c → slice_get new core ≡ c'
+        → MatchOption (option_map (λ (c : CoreState D). c.area) c) (option_map (λ (c : CoreState D). c.area) c' ≡ None) (λ a. IsSomeAnd (option_map (λ (c : CoreState D). c.area) c') (λ b. (b ≡ area_onward a b) × Continues (view a.device) (view b.device)))
+        → FailsIn disk span
+    by None c' e e' goes = absurd (none_there old core below e)
+    by (Some c) None e e' goes = absurd goes
+    by (Some c) (Some c') e e' goes =
+        let there = of_take round.devices round.spans (core + 1) span here in
+        let before : slice_get areas core ≡ Some c.area = ap (λ (l : List (AreaView D)). slice_get l core) (sym start) ∙ slice_get-map (λ (c : CoreState D). c.area) old core ∙ ap (option_map (λ (c : CoreState D). c.area)) e in
+        let after : slice_get (journals_of new) core ≡ Some c'.area = slice_get-map (λ (c : CoreState D). c.area) new core ∙ ap (option_map (λ (c : CoreState D). c.area)) e' in
+        let from : span.from ≡ (view c.area.device).calls = from_at round ready ended between (core + 1) span (view c.area.device).calls there (at_core view d areas ready first core c.area before) in
+        let to : span.to ≡ (view c'.area.device).calls = to_at round ready ended between (core + 1) span (view c'.area.device).calls there (at_core view d (journals_of new) ended last core c'.area after) in
+        let next : suc core ≡ core + 1 = omega arith in
+        let placed : slice_get disks (core + 1) ≡ Some (view c'.area.device) =
+        subst (λ (k : ℕ). slice_get disks k ≡ Some (view c'.area.device)) next
+        (ap (λ (ds : List DiskView). slice_get ds (suc core)) are ∙ slice_get-map (λ (a : AreaView D). view a.device) areas' core
+        ∙ ap (option_map (λ (a : AreaView D). view a.device)) (ap (λ (l : List (AreaView D)). slice_get l core) end ∙ after)) in
+        let same : view c'.area.device ≡ disk = (let e'' : Some (view c'.area.device) ≡ Some disk = sym placed ∙ at in cc) in
+        subst (λ (x : DiskView). FailsIn x span) same (fails_since (view c.area.device) (view c'.area.device) span (were core c.area before) (are_disks core c'.area after) goes.1 (rose c c' e e') from to)
+
 -- each crash within the round recovers
 pub round_recovered : {D : Type 0} (law : RoundRecovers D) (view : D → DiskView) (cache : CacheParameters) (cores : List (CoreState D)) (areas : List (AreaView D)) (tails : List Tail) (d : D) (round : Phase) (ready ended : List ℕ)
     (tree : FileTree) (history : List Operation) (sealed : Journals) (calls : List Call) (replies : List Reply) (played : List Played)
@@ -262,30 +292,21 @@ module _ {D : Type 0} (view : D → DiskView) (super : Super) (start : State) (t
     (spans : List Span) (round : Rounds spans)
     (recover : (history : List Operation) (sealed : Journals) (calls : List Call) (replies : List Reply) (played : List Played) → IsService new.cache new.cores history → AreLogged view (past_of view areas).from (past_of view areas).tails new.cores history sealed → StandAsTold (past_of view areas).standing played new.cores → IsServed super.sizes history calls replies
     → (disks : List DiskView) → Stand disks → CrashesRecover disks spans super.sizes super.tails start tree calls replies played history)
-    (fails : (core : ℕ) → core < length old.cores → ((a b : CoreState D) → slice_get old.cores core ≡ Some a → slice_get new.cores core ≡ Some b → Rose (view a.area.device).faults (view b.area.device).faults) → Fails core) where
+    (fails : (core : ℕ) → core < length old.cores → ((a b : CoreState D) → slice_get old.cores core ≡ Some a → slice_get new.cores core ≡ Some b → Rose (view a.area.device).faults (view b.area.device).faults) → Fails core)
+    (fails_now : (disks : List DiskView) → Stand disks → (core : ℕ) → core < length old.cores → ((a b : CoreState D) → slice_get old.cores core ≡ Some a → slice_get new.cores core ≡ Some b → Rose (view a.area.device).faults (view b.area.device).faults) → JournalFailsIn disks spans core) where
   plays_of : (failed : Option ℕ) (rest : List ℕ) → PlaysRound view old new (past_of view areas) lines before.held after.held failed rest → Plays super start tree Stand Rounds Fails before after failed rest
+  unfolding cuts_of
   plays_of failed rest played =
       let plays = played.plays in
-      let fit = rw (sized, held) at plays.fit in
-      let run = fits super.sizes start tree plays.played plays.later shows fit in
       record {
-        read = read;
-        lines = lines;
-        played = plays.played;
-        history = plays.later;
         spans = spans;
-        written = played.written;
-        input = input;
-        is_schedule = schedule;
-        built = built;
-        all_played = sym (append-nil (map (λ (p : Played). p.0) plays.played)) ∙ plays.lines_are;
-        fit = fit;
-        fits_log = rw (sized, held, tails) at plays.fits_log;
-        run = run.0;
         round = round;
-        recovers = recover plays.later plays.sealed run.0.calls run.0.replies plays.played plays.service plays.logged plays.stand run.1;
+        cuts = cuts_of view super start tree old new areas lines Stand sized held tails shows fits spans recover before.left after.left read input schedule built [] played.answers plays;
+        all_played = refl;
         fails = λ core failed. fails core (played.within core failed) (λ a b here there. plays.rose core a b here there failed);
+        fails_in_round = λ disks stand core failed. fails_now disks stand core (played.within core failed) (λ a b here there. plays.rose core a b here there failed);
         lowest = played.lowest;
+        written = played.written;
         text = played.text;
         took = played.took;
       }

@@ -23,6 +23,7 @@ use Rattle.zj_cli.specs.Outside.{Outside}
 use Rattle.zj_cli.specs.Phases.{AreOf, ArePhases, AreUnder, DevicesGoOn}
 use Rattle.zj_cli.specs.Play.{Plays, ScriptEnds}
 use Rattle.zj_cli.proofs.CheckLemmas.{AreAgain, IsAgain}
+use Rattle.zj_cli.proofs.CutLemmas.{cuts_under}
 use Rattle.zj_cli.proofs.PhaseLemmas.{same_lists}
 use Rattle.zj_cli.proofs.SpellLemmas.{none_there}
 
@@ -156,24 +157,16 @@ phases_under cores Stand Told (mount ∷ round ∷ more ∷ phases) to are = abs
 
 module _ (super : Super) (start : State) (tree : FileTree) (Stand Told : List DiskView → Type 0) (Rounds : List Span → Type 0) (Fails Rise : ℕ → Type 0) (before after : Outside) (to : (disks : List DiskView) → Told disks → Stand disks) (rises : (core : ℕ) → Fails core → Rise core) where
   plays_under : (failed : Option ℕ) (rest : List ℕ) → Plays super start tree Stand Rounds Fails before after failed rest → Plays super start tree Told Rounds Rise before after failed rest
+  unfolding cuts_under
   plays_under failed rest plays = record {
-    read = plays.read;
-    lines = plays.lines;
-    played = plays.played;
-    history = plays.history;
     spans = plays.spans;
-    written = plays.written;
-    input = plays.input;
-    is_schedule = plays.is_schedule;
-    built = plays.built;
-    all_played = plays.all_played;
-    fit = plays.fit;
-    fits_log = plays.fits_log;
-    run = plays.run;
     round = plays.round;
-    recovers = λ disks told. plays.recovers disks (to disks told);
+    cuts = cuts_under super start tree Stand Told before.left after.left plays.spans to plays.cuts;
+    all_played = plays.all_played;
     fails = λ core failed. rises core (plays.fails core failed);
+    fails_in_round = λ disks told. plays.fails_in_round disks (to disks told);
     lowest = plays.lowest;
+    written = plays.written;
     text = plays.text;
     took = plays.took;
   }

@@ -1,7 +1,7 @@
 -- What a status tells of the phases of a call: the moments of each device in each of them.
 use Rattle.std.specs.Prelude.{◌≡◌, ◌-◌, ◌^◌, ◌≤◌, ⊤, ℕ, ◌+◌, ◌<◌, true, List, [], ◌∷◌, length, map, take, Some, None, IsSomeAnd, MatchOption, slice_get, slice_index}
-use Rattle.zj_dev.specs.Crash.{IsQuietIn, LeavesIn}
-use Rattle.zj_dev.specs.Disk.{Continues, DiskView}
+use Rattle.zj_dev.specs.Crash.{FailsIn, IsQuietIn, LeavesIn}
+use Rattle.zj_dev.specs.Disk.{Continues, DiskView, IsDisk}
 use Rattle.zj_dev.specs.Fault.{Rose}
 use Rattle.zj_dev.specs.Shelf.{ShelfView, Stands}
 use Rattle.zj_dev.specs.declared.span.Span.{Span}
@@ -71,6 +71,10 @@ PhasesBegin before after (first ∷ later) = (cores : ℕ) (stood disks : List D
 abbrev pub HasRound : List Phase → List Span → Type 0
 HasRound phases spans = (mount round : Phase) × (phases ≡ mount ∷ round ∷ []) × (spans ≡ spans_in round)
 
+-- In these spans of devices, home first, the journal of a core failed.
+abbrev pub JournalFailsIn : List DiskView → List Span → ℕ → Type 0
+JournalFailsIn disks spans core = (disk : DiskView) (span : Span) → slice_get disks (core + 1) ≡ Some disk → slice_get spans (core + 1) ≡ Some span → FailsIn disk span
+
 -- ---- moments
 
 -- the moments of home and of journals, behind them 0
@@ -79,6 +83,10 @@ pub record AreMoments {D : Type 0} (view : D → DiskView) (home : D) (journals 
   pub home_is : slice_get moments 0 ≡ Some (view home).calls
   pub journals_are : (core : ℕ) (journal : D) → slice_get journals core ≡ Some journal → slice_get moments (core + 1) ≡ Some (view journal).calls
   pub behind : (place : ℕ) → length journals < place → slice_index moments place ≡ 0
+
+-- the device of each of these journals is a disk
+abbrev pub AreDisks : {D : Type 0} → (D → DiskView) → List (AreaView D) → Type 0
+AreDisks {D} view areas = (core : ℕ) (area : AreaView D) → slice_get areas core ≡ Some area → IsDisk (view area.device)
 
 -- a phase between moments
 pub record IsBetween (from to : List ℕ) (phase : Phase) : Type 0 where

@@ -32,7 +32,7 @@ use Rattle.zj_cli.specs.Asked.{AreBuilt, IsRefusedAt}
 use Rattle.zj_cli.specs.Check.{IsDeviceCause}
 use Rattle.zj_cli.specs.Mount.{IsTreeCause, Mounts}
 use Rattle.zj_cli.specs.Outside.{IsUnwritten, Outside}
-use Rattle.zj_cli.specs.Phases.{ArePhases, AreUnder, HasRound, PhasesBegin}
+use Rattle.zj_cli.specs.Phases.{ArePhases, AreUnder, HasRound, JournalFailsIn, PhasesBegin}
 
 -- A source gave these bytes, one more at most than a schedule may have.
 pub record Reads (old new : Option (List ℕ)) (read : List ℕ) : Type 0 where
@@ -49,29 +49,36 @@ abbrev pub IsLowestFailed : List Played → Option ℕ → Type 0
 IsLowestFailed played None = (core : ℕ) → fails_in played core ≡ false
 IsLowestFailed played (Some core) = (fails_in played core ≡ true) × ((lower : ℕ) → lower < core → fails_in played lower ≡ false)
 
--- What was read is a schedule for an image, whose acts are all built. All its lines were played: they, their answers and one history from
--- the image's blocks on fit, also in what the answers say of the cores' transactions; the replies are the plain service's in turn from
--- the tree on; each crash within the round recovers to a cut of that history, on the disks where they are told; a commit of a core failed only
--- where its journal did; and the answers were written but for the rest. This is the lowest core of which a commit failed, if one did.
-pub record Plays (super : Super) (start : State) (tree : FileTree) (Stand : List DiskView → Type 0) (Rounds : List Span → Type 0) (Fails : ℕ → Type 0) (before after : Outside) (failed : Option ℕ) (rest : List ℕ) : Type 0 where
+-- Lines were begun: what was read is a schedule for an image, whose acts are all built, and its first lines, or all, were played. They, their
+-- answers and one history from the image's blocks on fit, also in what the answers say of the cores' transactions; the replies are the plain
+-- service's in turn from the tree on; and each crash within the round recovers to a cut of that history, on the disks where they are told.
+pub record LeavesCuts (super : Super) (start : State) (tree : FileTree) (Stand : List DiskView → Type 0) (left now : Option (List ℕ)) (spans : List Span) : Type 0 where
   pub read : List ℕ
   pub lines : List Line
+  pub rest : List Line
   pub played : List Played
   pub history : List Operation
-  pub spans : List Span
-  pub written : List ℕ
-  pub input : ReadsInput before.left after.left read
+  pub input : ReadsInput left now read
   pub is_schedule : IsSchedule super.sizes.cores read lines
   pub built : AreBuilt lines
-  pub all_played : map (λ p. p.0) played ≡ lines
+  pub front : map (λ p. p.0) played ++ rest ≡ lines
   pub fit : Fit super.sizes start [] played history
   pub fits_log : FitsLog super.sizes super.tails start [] (standing_at super.tails) played history
   pub run : IsRun super.sizes tree played
-  pub round : Rounds spans
   pub recovers : (disks : List DiskView) → Stand disks → CrashesRecover disks spans super.sizes super.tails start tree run.calls run.replies played history
-  pub fails : (core : ℕ) → fails_in played core ≡ true → Fails core
-  pub lowest : IsLowestFailed played failed
-  pub text : written ++ rest ≡ flat_map answer_text (map answer_of played)
+
+-- All lines of the schedule were played in a round, and leave such cuts. A commit of a core failed only where its journal did, and in the round,
+-- as far as the disks tell. The answers were written but for the rest. This is the lowest core of which a commit failed, if one did.
+pub record Plays (super : Super) (start : State) (tree : FileTree) (Stand : List DiskView → Type 0) (Rounds : List Span → Type 0) (Fails : ℕ → Type 0) (before after : Outside) (failed : Option ℕ) (rest : List ℕ) : Type 0 where
+  pub spans : List Span
+  pub round : Rounds spans
+  pub cuts : LeavesCuts super start tree Stand before.left after.left spans
+  pub all_played : cuts.rest ≡ []
+  pub fails : (core : ℕ) → fails_in cuts.played core ≡ true → Fails core
+  pub fails_in_round : (disks : List DiskView) → Stand disks → (core : ℕ) → fails_in cuts.played core ≡ true → JournalFailsIn disks spans core
+  pub lowest : IsLowestFailed cuts.played failed
+  pub written : List ℕ
+  pub text : written ++ rest ≡ flat_map answer_text (map answer_of cuts.played)
   pub took : Took before.held after.held written
 
 -- What was read is refused, at the first place that is no schedule for so many cores or asks for what isn't built.
@@ -136,23 +143,6 @@ PlayEnds before after phases (Some (faults.Device device)) = (IsMountDeviceCause
     ⊎ PlaysFrom before after phases (Some (faults.Device device))
 PlayEnds before after phases (Some faults.Memory) = StopsEarly before after
 PlayEnds before after phases (Some fault) = PlaysFrom before after phases (Some fault)
-
--- Where lines were begun: what was read is a schedule for an image, whose acts are built, and its first lines, or all, were played; they, their answers and one
--- history from the image's blocks on fit; and each crash within the round recovers to a cut of that history.
-pub record LeavesCuts (super : Super) (start : State) (tree : FileTree) (Stand : List DiskView → Type 0) (left now : Option (List ℕ)) (spans : List Span) : Type 0 where
-  pub read : List ℕ
-  pub lines : List Line
-  pub rest : List Line
-  pub played : List Played
-  pub history : List Operation
-  pub input : ReadsInput left now read
-  pub is_schedule : IsSchedule super.sizes.cores read lines
-  pub built : AreBuilt lines
-  pub front : map (λ p. p.0) played ++ rest ≡ lines
-  pub fit : Fit super.sizes start [] played history
-  pub fits_log : FitsLog super.sizes super.tails start [] (standing_at super.tails) played history
-  pub run : IsRun super.sizes tree played
-  pub recovers : (disks : List DiskView) → Stand disks → CrashesRecover disks spans super.sizes super.tails start tree run.calls run.replies played history
 
 -- What a round leaves of an image that stood on the shelf, whichever fault it ended with, also where memory ran out.
 abbrev pub LeavesImage : Outside → Outside → List Span → Type 0

@@ -2,7 +2,7 @@
 
 ghost use Rattle.std.specs.Prelude.{◌≡◌, ◌<◌, ◌≤◌, ◌^◌, ℕ, Some, length, map, slice_get};
 ghost use Rattle.zj_block.specs.declared.sizes.TheConstants.{MAX_CORES};
-ghost use Rattle.zj_cli.specs.Phases.{AreMoments, IsBetween};
+ghost use Rattle.zj_cli.specs.Phases.{AreDisks, AreMoments, IsBetween};
 
 use zj_dev::{Disk, Span};
 use zj_home::Home;
@@ -59,6 +59,7 @@ impl Phase {
 pub(crate) fn moments<D: Disk>(home: &Home<D>, areas: &mut Areas<D>) -> [u64; 65]
     requires few { length areas.old.areas ≤ MAX_CORES }
     ensures moments { AreMoments D.view home.now.device (map (λ a. a.device) areas.old.areas) result }
+    ensures disks { AreDisks D.view areas.old.areas }
     ensures fits { (place moment : ℕ) → slice_get result place ≡ Some moment → moment < 2 ^ 64 }
     ensures same { areas.new ≡ areas.old }
 {

@@ -1,5 +1,5 @@
 -- A commit: what a crash leaves at each moment of it, and the core that it leaves.
-use Rattle.std.proofs.Common.{◌≡◌, ◌≢◌, ◌⊎◌, inl, ℕ, ◌+◌, true, false, true≢false, is_some, List, [], ◌∷◌, ◌++◌, Option, Some, None, IfSome, IsSome, sym, ap, ◌∙◌, subst}
+use Rattle.std.proofs.Common.{◌≡◌, ◌≢◌, ◌⊎◌, inl, ℕ, ◌+◌, ◌≤◌, true, false, true≢false, is_some, List, [], ◌∷◌, ◌++◌, Option, Some, None, IfSome, IsSome, sym, ap, ◌∙◌, subst}
 use Rattle.std.specs.Option.{option_map}
 use Rattle.zj_block.specs.Sizes.{Numbers}
 use Rattle.zj_block.specs.declared.numbers.Tail.{Tail}
@@ -16,7 +16,7 @@ use Rattle.zj_tx.specs.Record.{Accepts, IsRecord}
 use Rattle.zj_tx.specs.Running.{IsSealed, Transaction, empty_transaction}
 use Rattle.zj_turns.specs.Passes.{PassState}
 use Rattle.zj_core.specs.declared.steps.Handle.{Handle}
-use Rattle.zj_core.specs.Committing.{FailsToCommit}
+use Rattle.zj_core.specs.Committing.{FailsToCommit, calls_of_commit}
 use Rattle.zj_core.specs.Core.{CoreState, IsCore}
 use Rattle.zj_core.proofs.Running.{runs_next, shown}
 
@@ -65,8 +65,8 @@ module _ {D : Type 0} (p : PassState) (area : AreaView D) (sizes : Numbers) (han
       → after ≡ record { device = after.device; sizes = area.sizes; core = area.core; tail = area.tail; end = area.end; ready = area.ready; failed = true; laid = area.laid }
       → ((records : List Record) → IsAtRest (journal_of view area) records → EachImageSince (view area.device).calls (view after.device)
       (λ image. Holds area.sizes area.core image area.tail records area.end ⊎ Holds area.sizes area.core image area.tail (records ++ r ∷ []) (behind area.sizes area.end r)))
-      → Continues (view area.device) (view after.device) → IsDisk (view after.device) → Rose (view area.device).faults (view after.device).faults → FailsToCommit view before (shown p after sizes handle next)
-  fails_to_commit view r some sealed is_record accepted fails images continues is_disk rose = subst (λ (x : CoreState D). FailsToCommit view x (shown p after sizes handle next)) is (record {
+      → Continues (view area.device) (view after.device) → (view after.device).calls ≤ (view area.device).calls + calls_of_commit → IsDisk (view after.device) → Rose (view area.device).faults (view after.device).faults → FailsToCommit view before (shown p after sizes handle next)
+  fails_to_commit view r some sealed is_record accepted fails images continues calls is_disk rose = subst (λ (x : CoreState D). FailsToCommit view x (shown p after sizes handle next)) is (record {
     sealed_as = r;
     seals = record {
       sound = sound;
@@ -77,6 +77,7 @@ module _ {D : Type 0} (p : PassState) (area : AreaView D) (sizes : Numbers) (han
       next = ap (shown p after sizes handle) next_is;
       area = fails ∙ (λ i. record { device = after.device; sizes = area.sizes; core = area.core; tail = area.tail; end = sym (ap (λ (a : AreaView D). a.end) fails) i; ready = area.ready; failed = sym (ap (λ (a : AreaView D). a.failed) fails) i; laid = area.laid });
       continues = continues;
+      calls_at_most = calls;
       is_disk = is_disk;
       images = images;
     };

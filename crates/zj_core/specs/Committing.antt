@@ -1,5 +1,5 @@
 -- What a commit does, at each moment of its device calls.
-use Rattle.std.specs.Prelude.{◌≡◌, ◌≢◌, ◌⊎◌, ℕ, ◌+◌, true, false, List, [], ◌∷◌, ◌++◌}
+use Rattle.std.specs.Prelude.{◌≡◌, ◌≢◌, ◌⊎◌, ℕ, ◌+◌, ◌≤◌, true, false, List, [], ◌∷◌, ◌++◌}
 use Rattle.zj_dev.specs.Fault.{Rose}
 use Rattle.zj_dev.specs.Disk.{Continues, DiskView, EachImageSince, IsDisk}
 use Rattle.zj_tx.specs.Record.{IsRecord, Accepts, Record}
@@ -10,8 +10,14 @@ use Rattle.zj_core.specs.Core.{CoreState}
 use Rattle.zj_core.specs.declared.fault.CommitFault.{CommitFault}
 use Rattle.zj_core.specs.declared.fault.CommitFault.TheVariants as commits
 
+-- how many calls a commit makes of its journal's device: it writes the record with its gate closed, and the gate behind it, and syncs; then it
+-- opens the gate, and syncs
+abbrev pub calls_of_commit : ℕ
+calls_of_commit = 5
+
 -- The running transaction was sealed as a record that fits the journal, and the next one runs. Nothing else of the core changed but its
--- journal; and whatever a crash leaves there, at a moment of the commit, holds the records before, or those with the new one.
+-- journal, of which no more than a commit's calls were made; and whatever a crash leaves there, at a moment of the commit, holds the records
+-- before, or those with the new one.
 pub record Seals {D : Type 0} (view : D → DiskView) (old new : CoreState D) (r : Record) : Type 0 where
   pub sound : old.area.failed ≡ false
   pub some : old.running.handles ≢ 0
@@ -21,14 +27,10 @@ pub record Seals {D : Type 0} (view : D → DiskView) (old new : CoreState D) (r
   pub next : new ≡ record old { area = new.area; running = empty_transaction old.running.core old.running.cores (old.running.number + 1) }
   pub area : new.area ≡ record old.area { device = new.area.device; end = new.area.end; failed = new.area.failed }
   pub continues : Continues (view old.area.device) (view new.area.device)
+  pub calls_at_most : (view new.area.device).calls ≤ (view old.area.device).calls + calls_of_commit
   pub is_disk : IsDisk (view new.area.device)
   pub images : (records : List Record) → IsAtRest (journal_of view old.area) records → EachImageSince (view old.area.device).calls (view new.area.device)
       (λ image. Holds old.area.sizes old.area.core image old.area.tail records old.area.end ⊎ Holds old.area.sizes old.area.core image old.area.tail (records ++ r ∷ []) (behind old.area.sizes old.area.end r))
-
--- how many calls a commit makes of its journal's device: it writes the record with its gate closed, and the gate behind it, and syncs; then it
--- opens the gate, and syncs
-abbrev pub calls_of_commit : ℕ
-calls_of_commit = 5
 
 -- A commit that was answered Ok: once its calls were made the journal holds the new record behind the others, and goes on behind it.
 pub record Commits {D : Type 0} (view : D → DiskView) (old new : CoreState D) : Type 0 where

@@ -58,8 +58,8 @@ abbrev pub operations_running : {D : Type 0} → CoreState D → List Operation
 operations_running c = operations_of (mine c.pass).operations (record { core = c.pass.core; number = c.running.number })
 
 -- The running transaction of a core keeps what the core's operations with its number found and left, and the core has none with a
--- greater number. Its blocks are blocks of the image, each once, and no more than a record has. While no commit has failed its number is that of the next record, and where it has
--- an operation a longest record has room in the journal; once one has failed it has none.
+-- greater number. Its blocks are blocks of the image, each once, and no more than a record has. While no commit has failed its number
+-- is that of the next record, and where it has an operation a longest record has room in the journal; once one has failed it has none.
 pub record Runs {D : Type 0} (c : CoreState D) : Type 0 where
   pub core : c.running.core ≡ c.pass.core
   pub cores : c.running.cores ≡ c.sizes.cores

@@ -1,6 +1,6 @@
 //! The device calls of a commit.
 
-ghost use Rattle.std.specs.Prelude.{◌≡◌, ◌⊎◌, ◌+◌, ◌++◌, ◌∷◌, [], List, None, IfOk, OnErr, OnOk, false, true};
+ghost use Rattle.std.specs.Prelude.{◌≡◌, ◌⊎◌, ◌+◌, ◌≤◌, ◌++◌, ◌∷◌, [], List, None, IfOk, OnErr, OnOk, false, true};
 ghost use Rattle.zj_dev.specs.Disk.{Continues, EachImageSince, IsDisk};
 ghost use Rattle.zj_dev.specs.Fault.{Rose};
 ghost use Rattle.zj_tx.specs.Record.{Accepts, Record};
@@ -29,6 +29,7 @@ pub(crate) fn write_record<D: Disk>(area: &mut Area<D>, sealed: &Sealed) -> Resu
     ensures images { (records : List Record) → IsAtRest (journal_of D.view area.old) records → EachImageSince (D.view area.old.device).calls (D.view area.new.device) (λ image. Holds area.old.sizes area.old.core image area.old.tail records area.old.end ⊎ Holds area.old.sizes area.old.core image area.old.tail (records ++ sealed.now ∷ []) (behind area.old.sizes area.old.end sealed.now)) }
     ensures continues { Continues (D.view area.old.device) (D.view area.new.device) }
     ensures calls { OnOk result ((D.view area.new.device).calls ≡ (D.view area.old.device).calls + calls_of_commit) }
+    ensures calls_at_most { (D.view area.new.device).calls ≤ (D.view area.old.device).calls + calls_of_commit }
     ensures is_disk { IsDisk (D.view area.new.device) }
     ensures cause { OnErr result (Rose (D.view area.old.device).faults (D.view area.new.device).faults) }
 {

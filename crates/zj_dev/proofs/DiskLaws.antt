@@ -1,11 +1,13 @@
 -- Laws of disks, for proofs of this crate and of those above: pieces of bytes, runs of calls, and what a crash may leave at
 -- each moment of a run.
-use Rattle.std.proofs.Common.{◌≡◌, ◌⊎◌, ℕ, ◌+◌, ◌-◌, ◌<◌, ◌≤◌, true, List, [], ◌∷◌, ◌++◌, length, take, drop, slice_index, get_or, Some, refl, sym, ap, subst, ◌∙◌, arith, inl, inr, append_assoc, length-append, length-drop}
+use Rattle.std.proofs.Common.{◌≡◌, ◌⊎◌, ℕ, ◌+◌, ◌-◌, ◌<◌, ◌≤◌, Bool, true, List, [], ◌∷◌, ◌++◌, length, take, drop, slice_index, get_or, Some, refl, sym, ap, subst, ◌∙◌, arith, inl, inr, append_assoc, length-append, length-drop}
 use Rattle.std.specs.List.{slice_range}
 use Rattle.std.proofs.lemmas.Bool.{cases_lt}
 use Rattle.std.proofs.lemmas.List.{drop-drop, drop_at, get_or-drop, get_or-take, length-take-le, take-append-drop, take-take, take_at, take_more}
 use Rattle.std.proofs.lemmas.Slice.{between_is}
 use Rattle.zj_dev.specs.Fault.{Rose}
+use Rattle.zj_dev.specs.Crash.{FailsIn}
+use Rattle.zj_dev.specs.declared.span.Span.{Span}
 use Rattle.zj_dev.specs.Disk.{Continues, DiskView, EachImageSince, FailsToSync, GoesOn, IsDisk, LeadsTo, LeavesAll, OnlyReads, SameOutside, StaysSince, TearsOnly, TearsSince, replaced}
 
 -- ---- bytes that are the same outside a range
@@ -111,6 +113,7 @@ continues_refl disk = record {
   images = λ moment image early. refl;
   here = λ image early. refl;
   past = λ moment early. refl;
+  failed_here = λ early. refl;
 }
 
 -- one call
@@ -123,6 +126,7 @@ continues_once old new is on = record {
   images = λ moment image early. on.images moment image (omega (arith, on.calls, is.counted));
   here = λ image early. on.images old.calls image (omega (arith, on.calls));
   past = λ moment early. on.past moment (omega (arith, on.calls, is.counted));
+  failed_here = λ early. on.past old.calls (omega (arith, on.calls));
 }
 
 -- some calls, and then more
@@ -140,7 +144,20 @@ continues_trans a b c first second = record {
         subst (λ (m : ℕ). c.may_leave m image ≡ b.may_leave m image) e (second.here image (omega arith)) ∙ first.here image early
   ];
   past = λ moment early. second.past moment (omega (arith, first.calls)) ∙ first.past moment early;
+  failed_here = λ early. elim (cases_lt a.calls b.calls) [
+    | inl later ↦ second.past a.calls later ∙ first.failed_here early
+    | inr same ↦
+        let e : b.calls ≡ a.calls = omega (arith, first.calls) in
+        subst (λ (m : ℕ). c.faults_at m ≡ b.faults_at m) e (second.failed_here (omega arith)) ∙ first.failed_here early
+  ];
 }
+
+-- a count that rose since a moment rose in the span from there on
+pub fails_since : (old new : DiskView) (span : Span) → IsDisk old → IsDisk new → Continues old new → Rose old.faults new.faults → span.from ≡ old.calls → span.to ≡ new.calls → FailsIn new span
+fails_since old new span was is on rose from to told early =
+    let first : new.faults_at span.from ≡ old.faults = ap new.faults_at from ∙ on.failed_here (omega (arith, from, to, on.calls, early)) ∙ was.faults_now (subst (λ (b : Bool). b ≡ true) on.told told) in
+    let last : new.faults_at span.to ≡ new.faults = ap new.faults_at to ∙ is.faults_now told in
+    omega (arith, first, last, rose)
 
 -- a call that leaves all is as good as a sync that failed
 pub fails_to_sync : (old new : DiskView) → LeavesAll old new → FailsToSync old new

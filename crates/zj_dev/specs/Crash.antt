@@ -1,5 +1,6 @@
 -- What a crash leaves of several devices: of each an image of some moment of its own.
-use Rattle.std.specs.Prelude.{◌≡◌, ℕ, ◌≤◌, true, List, length, Some, slice_get}
+use Rattle.std.specs.Prelude.{◌≡◌, ℕ, ◌-◌, ◌^◌, ◌<◌, ◌≤◌, true, List, length, Some, IsSome, slice_get}
+use Rattle.zj_dev.specs.Fault.{Rose}
 use Rattle.zj_dev.specs.Disk.{DiskView}
 use Rattle.zj_dev.specs.declared.span.Span.{Span}
 
@@ -22,3 +23,8 @@ pub record IsCrashSet (disks : List DiskView) (spans : List Span) (moments : Lis
 -- Nothing was written in a span: at each moment of it a crash leaves what it might leave at the first.
 abbrev pub IsQuietIn : DiskView → Span → Type 0
 IsQuietIn disk span = (moment : ℕ) (image : List ℕ) → span.from ≤ moment → moment ≤ span.to → disk.may_leave moment image ≡ disk.may_leave span.from image
+
+-- A device that tells its bytes failed in a span: more of its calls had failed by the end than by the beginning. At the last moment that a
+-- count of calls can tell the count stands still, so nothing is said of a span that ends there.
+abbrev pub FailsIn : DiskView → Span → Type 0
+FailsIn disk span = IsSome disk.bytes → span.to < 2 ^ 64 - 1 → Rose (disk.faults_at span.from) (disk.faults_at span.to)

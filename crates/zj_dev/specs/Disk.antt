@@ -55,7 +55,8 @@ pub record LeavesAll (old new : DiskView) : Type 0 where
   pub bytes : new.bytes ≡ old.bytes
   pub images : (image : List ℕ) → new.may_leave new.calls image ≡ old.may_leave old.calls image
 
--- Some calls were made, or none. What was told of earlier moments stays so, and what a crash might leave at the first one.
+-- Some calls were made, or none. What was told of earlier moments stays so, and of the first one: what a crash might leave
+-- at it, and how many calls had failed by it.
 pub record Continues (old new : DiskView) : Type 0 where
   pub size : new.size ≡ old.size
   pub calls : old.calls ≤ new.calls
@@ -64,6 +65,7 @@ pub record Continues (old new : DiskView) : Type 0 where
   pub images : (moment : ℕ) (image : List ℕ) → moment < old.calls → new.may_leave moment image ≡ old.may_leave moment image
   pub here : (image : List ℕ) → old.calls < 2 ^ 64 - 1 → new.may_leave old.calls image ≡ old.may_leave old.calls image
   pub past : (moment : ℕ) → moment < old.calls → new.faults_at moment ≡ old.faults_at moment
+  pub failed_here : old.calls < 2 ^ 64 - 1 → new.faults_at old.calls ≡ old.faults_at old.calls
 
 -- Nothing was written and nothing synced: a read gives what it gave, and at each moment since a crash leaves what it
 -- left at first.

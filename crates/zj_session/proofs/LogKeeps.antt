@@ -102,7 +102,7 @@ module _ {D : Type 0} (view : D → DiskView) (from : ℕ) (old new : CoreState 
   after = let long = length-append records (r ∷ []) in let many = before in omega (arith, long, many)
 
   calls_before : (view old.area.device).calls ≡ from + calls_of_commit * keeps.commits
-  calls_before = keeps.only seals.sound
+  calls_before = let low = keeps.made in let high = keeps.at_most in let many = before in omega (arith, low, high, many)
 
   -- ---- an image of some moment holds the first of all, so many
 
@@ -157,7 +157,7 @@ module _ {D : Type 0} (view : D → DiskView) (from : ℕ) (old new : CoreState 
     images = subst (λ (x : AreaView D). (moment : ℕ) (image : List ℕ) → from ≤ moment → moment ≤ (view new.area.device).calls → (view new.area.device).may_leave moment image ≡ true
         → (count : ℕ) × HoldsFirst x.sizes x.core x.tail all count image × HasCommitted from (keeps.commits + 1) moment count) (sym seals.area) (images_then (keeps.commits + 1) since (inr refl));
     made = let begun = calls_before in omega (arith, calls, begun);
-    only = λ _. let begun = calls_before in omega (arith, calls, begun);
+    at_most = let begun = calls_before in let many = after in omega (arith, calls, begun, many);
     at_rest = λ _. at_rest;
     end = λ _. end ∙ ap (λ e. behind old.area.sizes e r) (keeps.end seals.sound) ∙ sym (end_more old.area.sizes old.area.tail records r)
         ∙ ap (λ (x : AreaView D). end_behind x.sizes x.tail all) (sym seals.area);
@@ -194,7 +194,7 @@ module _ {D : Type 0} (view : D → DiskView) (from : ℕ) (old new : CoreState 
         (λ moment image later now left. let so = during moment image later now left in (so.0, so.1, λ n most made. let least = so.2 in omega (arith, most, least)))
         (inl refl));
     made = let begun = calls_before in let on = seals.continues.calls in omega (arith, begun, on);
-    only = λ sound. absurd (true≢false (sym failed ∙ sound));
+    at_most = let begun = calls_before in let many = after in let few = seals.calls_at_most in omega (arith, begun, many, few);
     at_rest = λ sound. absurd (true≢false (sym failed ∙ sound));
     end = λ sound. absurd (true≢false (sym failed ∙ sound));
   }

@@ -72,7 +72,7 @@ module _ {D : Type 0} (view : D → DiskView) (cache : CacheParameters) (sizes :
       sealed = let none : cond {A = ℕ} c.area.failed 1 0 ≡ 0 = ap (λ (b : Bool). cond {A = ℕ} b 1 0) sound in omega (arith, none);
       images = λ moment image low high may. (0, record { within = omega arith; end = c.area.end; holds = held image (subst (λ m. (view c.area.device).may_leave m image ≡ true) (let now : moment ≡ (view c.area.device).calls = omega arith in now) may) }, λ n none made. none);
       made = omega arith;
-      only = λ _. omega arith;
+      at_most = omega arith;
       at_rest = λ _. rests.0;
       end = λ _. rests.1;
     }

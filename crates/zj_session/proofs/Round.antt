@@ -278,7 +278,12 @@ module _ (cut_recovers : CutRecovers) (cut_is_run : CutIsRun) (front_is_consiste
     holds_committed : HoldsCommitted played i s moment count
     holds_committed = record {
       made = let a = logged_here.keeps.made in let b = as_many in omega (arith, a, b, begins, ends);
-      only = λ sound. let a = logged_here.keeps.only (runs.failed ∙ sound) in let b = as_many in omega (arith, a, b, begins, ends);
+      at_most =
+          let a = logged_here.keeps.at_most in
+          let b = as_many in
+          let many = logged_here.keeps.sealed in
+          let told : cond {A = ℕ} c.area.failed 1 0 ≡ cond {A = ℕ} (fails_in played i) 1 0 = ap (λ (x : Bool). cond {A = ℕ} x 1 0) runs.failed in
+          omega (arith, a, b, many, told, begins, ends);
       least = λ n low made. found_committed view cache from tails cores history sealed service logged moments images each i c at moment there n (let b = as_many in omega (arith, low, b)) (omega (arith, made, begins));
       most = most;
     }

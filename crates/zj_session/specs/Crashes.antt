@@ -41,7 +41,7 @@ pub record HoldsFirst (sizes : Numbers) (core : ℕ) (tail : Tail) (records : Li
 abbrev pub HasCommitted : ℕ → ℕ → ℕ → ℕ → Type 0
 HasCommitted from commits moment count = (n : ℕ) → n ≤ commits → from + calls_of_commit * n ≤ moment → n ≤ count
 
--- So many commits were made of a journal since a moment, and nothing else, but where another one failed. Whatever a crash leaves of it, at a
+-- So many commits were made of a journal since a moment, and one more where that failed, and no other call. Whatever a crash leaves of it, at a
 -- moment since, holds some of the records that its core sealed, from the first on, and each that was committed by then. While none has failed
 -- the journal is at rest with all.
 pub record KeepsRecords (from : ℕ) (j : JournalView) (records : List Record) : Type 0 where
@@ -50,7 +50,7 @@ pub record KeepsRecords (from : ℕ) (j : JournalView) (records : List Record) :
   pub images : (moment : ℕ) (image : List ℕ) → from ≤ moment → moment ≤ j.disk.calls → j.disk.may_leave moment image ≡ true
       → (count : ℕ) × HoldsFirst j.sizes j.core j.tail records count image × HasCommitted from commits moment count
   pub made : from + calls_of_commit * commits ≤ j.disk.calls
-  pub only : j.failed ≡ false → j.disk.calls ≡ from + calls_of_commit * commits
+  pub at_most : j.disk.calls ≤ from + calls_of_commit * length records
   pub at_rest : j.failed ≡ false → IsAtRest j records
   pub end : j.failed ≡ false → j.end ≡ end_behind j.sizes j.tail records
 
@@ -99,11 +99,11 @@ pub record IsCutFound (sizes : Numbers) (start : BlockState) (tree : FileTree) (
   pub replies_are : chosen history kept replies ≡ replies_from (limits_of sizes) tree (chosen history kept calls)
 
 -- So many transactions of a core were found after a crash at a moment of a span of its journal. The commits that were answered to be done made
--- their calls within the span, one after the other, from its first moment on, and where none failed no other call was made. Each that had made
--- them by the moment of the crash was found, and no more, but where a commit failed that one too.
+-- their calls within the span, one after the other, from its first moment on, and no other call was made but those of a commit that failed.
+-- Each that had made them by the moment of the crash was found, and no more, but where a commit failed that one too.
 pub record HoldsCommitted (played : List Played) (core : ℕ) (span : Span) (moment count : ℕ) : Type 0 where
   pub made : span.from + calls_of_commit * commits_in played core ≤ span.to
-  pub only : fails_in played core ≡ false → span.to ≡ span.from + calls_of_commit * commits_in played core
+  pub at_most : span.to ≤ span.from + calls_of_commit * (commits_in played core + cond (fails_in played core) 1 0)
   pub least : HasCommitted span.from (commits_in played core) moment count
   pub most : (count ≤ commits_in played core) ⊎ ((fails_in played core ≡ true) × (count ≡ commits_in played core + 1))
 

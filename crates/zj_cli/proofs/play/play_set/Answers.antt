@@ -17,12 +17,12 @@ use Rattle.zj_session.specs.Starting.{RestWithNone, past_of}
 use Rattle.zj_turns.specs.Passes.{CacheParameters}
 use Rattle.zj_cli.specs.declared.phase.Phase.{Phase}
 use Rattle.zj_cli.specs.Outside.{Outside}
-use Rattle.zj_cli.specs.Phases.{AreMoments, AreOf, ArePhases, DevicesGoOn, HasRound, JournalFails, spans_in}
+use Rattle.zj_cli.specs.Phases.{AreDisks, AreMoments, AreOf, ArePhases, DevicesGoOn, HasRound, JournalFails, spans_in}
 use Rattle.zj_cli.specs.Play.{IsInputCause, LeavesCuts, ScriptEnds}
 use Rattle.zj_cli.proofs.PhaseLemmas.{begins_with, first_is, no_round, one_phase, round_is, settled_on, two_phases}
 use Rattle.zj_cli.proofs.PlayableLemmas.{left, playable}
 use Rattle.zj_cli.proofs.ReadyLemmas.{journals_ready}
-use Rattle.zj_cli.proofs.SessionLemmas.{as_many, cuts_of, input_ends, journal_fails, on_trans, rest_with_none, round_goes_on, script_ends, session_recovers, tails_are}
+use Rattle.zj_cli.proofs.SessionLemmas.{as_many, cuts_of, fails_in_round, input_ends, journal_fails, on_trans, rest_with_none, round_goes_on, script_ends, session_recovers, tails_are}
 use Rattle.zj_cli.proofs.play.play_set.Goals as goal
 
 pub moments-ready-requires : goal.moments-ready-requires
@@ -191,6 +191,8 @@ returns-in-Ok-start-clause-ends g c =
     let read : (g.D.Disk.view c.play_round-played.new.home.device).bytes ≡ (g.D.Disk.view c.args.home.now.device).bytes = subst (λ (d : _). (g.D.Disk.view d).bytes ≡ (g.D.Disk.view c.args.home.now.device).bytes) (sym dev) c.prepare-prepared.ensures.home.bytes in
     let many = sym (length-map c.play_round-played.new.service.cores (λ (x : CoreState _). x.area)) ∙ many_new in
     let schedule = c.in-Ok.ensures.schedule in
+    let were : AreDisks g.D.Disk.view c.moments-ready.new.areas.areas = subst (λ (areas : List (AreaView _)). AreDisks g.D.Disk.view areas) (sym same1) c.moments-ready.ensures.disks in
+    let are_disks : AreDisks g.D.Disk.view (journals_of c.play_round-played.new.service.cores) = subst (λ (areas : List (AreaView _)). AreDisks g.D.Disk.view areas) c.end-areas.ensures c.moments-ended.ensures.disks in
     let on_settled : AreSettled g.D.Disk.view c.args.areas.areas (journals_of c.in-Ok-start.service.cores) = subst (λ (areas : List (AreaView _)). AreSettled g.D.Disk.view c.args.areas.areas areas) (sym started) settled in
     inl (
       c.in-Ok.prepared.0.blocks,
@@ -202,6 +204,8 @@ returns-in-Ok-start-clause-ends g c =
           (session_recovers c.round_recovers.ensures g.D.Disk.view c.args.home.now.told c.in-Ok.prepared.0.blocks c.in-Ok.prepared.0.tree.tree c.play_round-played.new.service.cache c.play_round-played.new.service.cores c.moments-ready.new.areas.areas c.moments-ended.new.areas.areas c.args.home.now.device c.play_round-played.new.home.device c.new-in-Ok-start.result c.moments-ready.result c.moments-ended.result
           then_sized then_held tails same3 c.new-in-Ok-start.ensures.spans first final many (omega (arith, round_devices, count)) quiet read has.held has.shows)
           (λ core below rose. subst (λ (areas : List (AreaView _)). JournalFails g.D.Disk.view c.args.areas.areas areas core) (sym same3) (journal_fails g.D.Disk.view c.args.areas.areas c.in-Ok-start.service.cores c.play_round-played.new.service.cores core on_settled c.play_round-played.ensures.journals below rose))
+          (λ disks are core below rose. fails_in_round g.D.Disk.view c.play_round-played.new.home.device c.in-Ok-start.service.cores c.play_round-played.new.service.cores c.moments-ready.new.areas.areas c.moments-ended.new.areas.areas c.new-in-Ok-start.result c.moments-ready.result c.moments-ended.result
+          started same3 c.new-in-Ok-start.ensures.spans first final were are_disks c.play_round-played.ensures.journals disks are core below rose)
           (result_err c.play_round-played.result) (c.play_round-played.ensures.ends (past_of g.D.Disk.view c.moments-ready.new.areas.areas) c.in-Ok-start.ensures.past),
     )
 

@@ -20,7 +20,7 @@ returns-in_err-write_record-clause-cause g c =
     (λ none. c.if-handles-eq0.false (c.handles.ensures ∙ none)) c.seal-sealed.ensures.sealed c.seal-sealed.ensures.record
     (sealed_accepted c.self.inside.pass c.self.inside.area c.self.inside.sizes c.self.inside.handle c.self.inside.running c.self.invariant.runs sound c.self.invariant.journal c.seal-sealed.result c.seal-sealed.ensures.sealed c.seal-sealed.ensures.record
     (subst (λ (n : ℕ). n < c.self.inside.area.sizes.cores) c.core-2.ensures.core c.core-2.ensures.within) c.sealed_is_frozen.ensures.within)
-    c.in_err-write_record.ensures.err c.write_record.ensures.images c.write_record.ensures.continues c.write_record.ensures.is_disk c.in_err-write_record.ensures.cause)
+    c.in_err-write_record.ensures.err c.write_record.ensures.images c.write_record.ensures.continues c.write_record.ensures.calls_at_most c.write_record.ensures.is_disk c.in_err-write_record.ensures.cause)
 
 pub invariant_of-self-2 : goal.invariant_of-self-2
 invariant_of-self-2 g c =
