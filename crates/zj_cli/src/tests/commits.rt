@@ -287,30 +287,51 @@ fn plays_failing(
     Ok(status.fault().copied())
 }
 
-#[test]
-fn each_call_of_a_journal_fails_in_turn(rt: HostRuntime) -> Result<(), Fail> {
-    let alloc = rt.alloc();
+/// Each call of a core's journal fails in turn while the schedule is played: it alone, or all from it on.
+fn each_call_fails(
+    rt: &impl Abort,
+    alloc: Global,
+    name: &str,
+    core: u32,
+    stops: bool,
+) -> Result<(), Fail> {
     let home = image(alloc, &mut made(alloc, &TWO)?, "home", Torn::Lost)?;
-    for (name, core) in [("j0", 0), ("j1", 1)] {
-        for stops in [false, true] {
-            let mut faults = 0u64;
-            for number in 0..40 {
-                let Some(fault) = plays_failing(&rt, alloc, &home, name, number, stops)? else {
-                    break;
-                };
-                assert_eq!(rt;
-                    fault,
-                    Fault::Device {
-                        device: Device::Journal(core)
-                    }
-                );
-                faults = faults.wrapping_add(1);
+    let mut faults = 0u64;
+    for number in 0..40 {
+        let Some(fault) = plays_failing(rt, alloc, &home, name, number, stops)? else {
+            break;
+        };
+        assert_eq!(rt;
+            fault,
+            Fault::Device {
+                device: Device::Journal(core)
             }
-            // A sync and a read of the mount, and two commits of five calls each.
-            assert_eq!(rt; faults, 12, "of {name}");
-        }
+        );
+        faults = faults.wrapping_add(1);
     }
+    // A sync and a read of the mount, and two commits of five calls each.
+    assert_eq!(rt; faults, 12, "of {name}");
     Ok(())
+}
+
+#[test]
+fn each_call_of_the_first_journal_fails_once(rt: HostRuntime) -> Result<(), Fail> {
+    each_call_fails(&rt, rt.alloc(), "j0", 0, false)
+}
+
+#[test]
+fn each_call_of_the_first_journal_fails_from_then_on(rt: HostRuntime) -> Result<(), Fail> {
+    each_call_fails(&rt, rt.alloc(), "j0", 0, true)
+}
+
+#[test]
+fn each_call_of_the_second_journal_fails_once(rt: HostRuntime) -> Result<(), Fail> {
+    each_call_fails(&rt, rt.alloc(), "j1", 1, false)
+}
+
+#[test]
+fn each_call_of_the_second_journal_fails_from_then_on(rt: HostRuntime) -> Result<(), Fail> {
+    each_call_fails(&rt, rt.alloc(), "j1", 1, true)
 }
 
 /// What `check` tells as found in `j0` after a crash, of each kind.
