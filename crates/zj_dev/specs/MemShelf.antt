@@ -57,4 +57,17 @@ OthersHeld name old new = (other : List ℕ) → other ≢ name → held_under n
 
 -- how many calls of the shelf have failed
 abbrev pub shelf_faults : MemShelf → ℕ
-shelf_faults shelf = shelf.faults
+shelf_faults shelf = shelf.calls.faults
+
+-- the numbers of the calls that were told to fail
+abbrev pub failing_calls_of : MemShelf → List ℕ
+failing_calls_of shelf = shelf.calls.failing.items
+
+-- how many calls were made since these were told
+abbrev pub calls_of : MemShelf → ℕ
+calls_of shelf = shelf.calls.made
+
+-- No call of the trait was counted, and the same ones fail.
+pub record SameCalls (old new : MemShelf) : Type 0 where
+  pub failing : failing_calls_of new ≡ failing_calls_of old
+  pub made : calls_of new ≡ calls_of old

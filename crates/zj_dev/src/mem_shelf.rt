@@ -54,13 +54,54 @@ struct ShelfPlace {
     held: Held,
 }
 
-/// A shelf in memory, whose devices are disks in memory. It tells what stands under each name, and fails
-/// only where `create` finds no memory.
+/// How many calls of a shelf were made, which of them fail, and how many have failed.
+#[derive(Debug, Drop)]
+struct CallCounter {
+    made: u64,
+    failing: Vec<u64>,
+    faults: u64,
+}
+
+impl CallCounter {
+    ghost use Rattle.std.specs.Prelude.{◌≡◌, ◌+◌, ◌-◌, ◌^◌, ◌≤◌, ◌↔◌, min, IsErr, OnErr, OnOk, Contains};
+    ghost use Rattle.zj_dev.specs.Fault.{Rose};
+
+    /// Counts a call, which fails where it was told to.
+    fn count(&mut self) -> Result<(), ShelfFailed>
+        ensures fails { IsErr result ↔ Contains self.old.failing.items self.old.made }
+        ensures made { self.new.made ≡ min (self.old.made + 1) (2 ^ 64 - 1) }
+        ensures failing { self.new.failing ≡ self.old.failing }
+        ensures cause { OnErr result (Rose self.old.faults self.new.faults) }
+        ensures quiet { OnOk result (self.new.faults ≡ self.old.faults) }
+        ensures no_fewer { self.old.faults ≤ self.new.faults }
+    {
+        let fails = self.failing.contains(&self.made);
+        self.made = self.made.saturating_add(1);
+        if fails {
+            return Err(self.fail());
+        }
+        Ok(())
+    }
+
+    /// Counts a fault.
+    fn fail(&mut self) -> ShelfFailed
+        ensures rose { Rose self.old.faults self.new.faults }
+        ensures no_fewer { self.old.faults ≤ self.new.faults }
+        ensures made { self.new.made ≡ self.old.made }
+        ensures failing { self.new.failing ≡ self.old.failing }
+    {
+        self.faults = self.faults.saturating_add(1);
+        ShelfFailed
+    }
+}
+
+/// A shelf in memory, whose devices are disks in memory. It tells what stands under each name, and fails at the
+/// calls of `Shelf` that it was told to fail at, and where `create` finds no memory.
 #[derive(Debug, Drop)]
 pub struct MemShelf {
     alloc: Global,
     places: Vec<ShelfPlace>,
-    faults: u64,
+    calls: CallCounter,
 }
 
 impl MemShelf {
@@ -68,19 +109,39 @@ impl MemShelf {
     ghost use Rattle.std.specs.List.{position_from};
     ghost use Rattle.zj_dev.specs.Shelf.{Absent, IsBlank};
     ghost use Rattle.zj_dev.specs.MemDisk.{IsFresh, disk_view, failing_calls, stop_call};
-    ghost use Rattle.zj_dev.specs.MemShelf.{disk_in, is_named, is_out, is_taken, held_under, shelf_names, shelf_faults, OthersHeld};
+    ghost use Rattle.zj_dev.specs.MemShelf.{disk_in, is_named, is_out, is_taken, held_under, shelf_names, shelf_faults, failing_calls_of, calls_of, SameCalls, OthersHeld};
 
     /// A shelf with no device.
     pub fn new(alloc: Global) -> Result<MemShelf, AllocError>
         ensures ok { IsOk result }
         ensures empty { IfOk result (λ shelf. (name : List ℕ) → shelf_names shelf name ≡ Absent) }
         ensures faults { IfOk result (λ shelf. shelf_faults shelf ≡ 0) }
+        ensures failing { IfOk result (λ shelf. failing_calls_of shelf ≡ []) }
     {
         Ok(MemShelf {
             alloc,
             places: Vec::new(alloc),
-            faults: 0,
+            calls: CallCounter {
+                made: 0,
+                failing: Vec::new(alloc),
+                faults: 0,
+            },
         })
+    }
+
+    /// From now on the calls of `Shelf` count from 0, and those with these numbers fail. One that fails opens and makes
+    /// nothing, and leaves every name as it was, but that `close` puts the device back all the same. Where it is out of
+    /// memory, the same calls fail as before.
+    pub fn fail_at(&mut self, calls: &[u64]) -> Result<(), AllocError>
+        ensures failing { OnOk result (failing_calls_of self.new ≡ calls.now) }
+        ensures fresh { OnOk result (calls_of self.new ≡ 0) }
+        ensures err { OnErr result (SameCalls self.old self.new) }
+        ensures names { (name : List ℕ) → held_under self.new name ≡ held_under self.old name }
+        ensures faults { shelf_faults self.new ≡ shelf_faults self.old }
+    {
+        self.calls.failing = Vec::from_slice(self.alloc, calls)?;
+        self.calls.made = 0;
+        Ok(())
     }
 
     /// Puts a device under the name, and answers the one that stood there. A device that was out is then
@@ -92,6 +153,7 @@ impl MemShelf {
         ensures err { OnErr result (held_under self.new name.now ≡ held_under self.old name.now) }
         ensures others { OthersHeld name.now self.old self.new }
         ensures faults { shelf_faults self.new ≡ shelf_faults self.old }
+        ensures calls { SameCalls self.old self.new }
     {
         if self.is_taken(name) {
             return Ok(self.replace(name, Held::Stands(d)).into_disk());
@@ -108,6 +170,7 @@ impl MemShelf {
         ensures none { IfNone result (held_under self.new name.now ≡ held_under self.old name.now) }
         ensures others { OthersHeld name.now self.old self.new }
         ensures faults { shelf_faults self.new ≡ shelf_faults self.old }
+        ensures calls { SameCalls self.old self.new }
     {
         if self.stands(name) {
             self.replace(name, Held::Absent).into_disk()
@@ -158,7 +221,7 @@ impl MemShelf {
         ensures before { result ≡ held_under self.old name.now }
         ensures held { held_under self.new name.now ≡ held }
         ensures others { OthersHeld name.now self.old self.new }
-        ensures faults { shelf_faults self.new ≡ shelf_faults self.old }
+        ensures calls { self.new.calls ≡ self.old.calls }
     {
         let i = self.find(name).unwrap();
         let place = &mut self.places[i];
@@ -170,7 +233,7 @@ impl MemShelf {
         ensures held { OnOk result (held_under self.new name.now ≡ held) }
         ensures err { OnErr result (held_under self.new name.now ≡ held_under self.old name.now) }
         ensures others { OthersHeld name.now self.old self.new }
-        ensures faults { shelf_faults self.new ≡ shelf_faults self.old }
+        ensures calls { self.new.calls ≡ self.old.calls }
     {
         if let Some(i) = self.find(name) {
             let place = &mut self.places[i];
@@ -191,7 +254,7 @@ impl MemShelf {
         ensures out { OnOk result (held_under self.new name.now ≡ Held.Out) }
         ensures err { OnErr result (held_under self.new name.now ≡ held_under self.old name.now) }
         ensures others { OthersHeld name.now self.old self.new }
-        ensures faults { shelf_faults self.new ≡ shelf_faults self.old }
+        ensures calls { self.new.calls ≡ self.old.calls }
     {
         let disk = blank(self.alloc, len)?;
         self.insert(name, Held::Out)?;
@@ -211,11 +274,11 @@ fn blank(alloc: Global, len: u64) -> Result<MemDisk, AllocError>
 }
 
 impl Shelf for MemShelf {
-    ghost use Rattle.std.specs.Prelude.{◌≡◌, ◌≤◌, ◌^◌, [], replicate, Ok, option_map, IsOk, IfOk, IfSome, OnErr, OnOk};
+    ghost use Rattle.std.specs.Prelude.{◌≡◌, ◌+◌, ◌-◌, ◌≤◌, ◌^◌, ◌↔◌, [], min, replicate, option_map, IsErr, IfOk, IfSome, OnErr, OnOk, Contains};
     ghost use Rattle.zj_dev.specs.Fault.{Rose};
     ghost use Rattle.zj_dev.specs.Shelf.{OthersStay, Opens, Creates, FailsToCreate, Closes};
     ghost use Rattle.zj_dev.specs.MemDisk.{IsFresh, disk_view, failing_calls, stop_call};
-    ghost use Rattle.zj_dev.specs.MemShelf.{disk_in, held_under, shelf_names, shelf_faults};
+    ghost use Rattle.zj_dev.specs.MemShelf.{disk_in, held_under, shelf_names, shelf_faults, failing_calls_of, calls_of};
 
     type D = MemDisk;
 
@@ -230,8 +293,12 @@ impl Shelf for MemShelf {
         ensures cause { OnErr result (Rose (shelf_faults self.old) (shelf_faults self.new)) }
         ensures quiet { OnOk result (shelf_faults self.new ≡ shelf_faults self.old) }
         ensures no_fewer { shelf_faults self.old ≤ shelf_faults self.new }
-        ensures taken { result ≡ Ok (disk_in (held_under self.old name.now)) }
+        ensures taken { IfOk result (λ disk. disk ≡ disk_in (held_under self.old name.now)) }
+        ensures fails { IsErr result ↔ Contains (failing_calls_of self.old) (calls_of self.old) }
+        ensures failing { failing_calls_of self.new ≡ failing_calls_of self.old }
+        ensures calls { calls_of self.new ≡ min (calls_of self.old + 1) (2 ^ 64 - 1) }
     {
+        self.calls.count()?;
         if self.stands(name) {
             Ok(self.replace(name, Held::Out).into_disk())
         } else {
@@ -247,18 +314,20 @@ impl Shelf for MemShelf {
         ensures quiet { OnOk result (shelf_faults self.new ≡ shelf_faults self.old) }
         ensures no_fewer { shelf_faults self.old ≤ shelf_faults self.new }
         ensures fresh { IfOk result (λ disk. IfSome disk (λ made. IsFresh (replicate len 0) (disk_view made))) }
-        ensures failing { IfOk result (λ disk. IfSome disk (λ made. failing_calls made ≡ [])) }
+        ensures sound { IfOk result (λ disk. IfSome disk (λ made. failing_calls made ≡ [])) }
         ensures stop { IfOk result (λ disk. IfSome disk (λ made. stop_call made ≡ 2 ^ 63)) }
+        ensures told { Contains (failing_calls_of self.old) (calls_of self.old) → IsErr result }
+        ensures kept { OnErr result (shelf_names self.new name.now ≡ shelf_names self.old name.now) }
+        ensures failing { failing_calls_of self.new ≡ failing_calls_of self.old }
+        ensures calls { calls_of self.new ≡ min (calls_of self.old + 1) (2 ^ 64 - 1) }
     {
+        self.calls.count()?;
         if self.is_taken(name) {
             return Ok(None);
         }
         match self.make(name, len) {
             Ok(disk) => Ok(Some(disk)),
-            Err(_) => {
-                self.faults = self.faults.saturating_add(1);
-                Err(ShelfFailed)
-            }
+            Err(_) => Err(self.calls.fail()),
         }
     }
 
@@ -268,11 +337,13 @@ impl Shelf for MemShelf {
         ensures cause { OnErr result (Rose (shelf_faults self.old) (shelf_faults self.new)) }
         ensures quiet { OnOk result (shelf_faults self.new ≡ shelf_faults self.old) }
         ensures no_fewer { shelf_faults self.old ≤ shelf_faults self.new }
-        ensures ok { IsOk result }
+        ensures fails { IsErr result ↔ Contains (failing_calls_of self.old) (calls_of self.old) }
+        ensures failing { failing_calls_of self.new ≡ failing_calls_of self.old }
+        ensures calls { calls_of self.new ≡ min (calls_of self.old + 1) (2 ^ 64 - 1) }
     {
         if self.is_out(name) {
             let _ = self.replace(name, Held::Stands(d));
         }
-        Ok(())
+        self.calls.count()
     }
 }
