@@ -324,25 +324,26 @@ fn spells_replies(rt: HostRuntime) {
     names_are(&rt, rt.alloc(), "names B a.b a_c");
 }
 
-/// A refusal is spelled so.
+/// A refusal is spelled so, behind the core and the ticket.
 fn refusal_is(rt: &impl Abort, alloc: Global, refusal: Refusal, wanted: &str) {
-    reply_is(rt, alloc, Reply::Refused(refusal), wanted);
+    let (ticket, reply) = (0, Reply::Refused(refusal));
+    is_spelled(rt, alloc, Some(10), Form::Drew { ticket, reply }, wanted);
 }
 
 #[test]
 fn spells_refusals(rt: HostRuntime) {
     let alloc = rt.alloc();
-    refusal_is(&rt, alloc, Refusal::NotFound, "notfound");
-    refusal_is(&rt, alloc, Refusal::NotDir, "notdir");
-    refusal_is(&rt, alloc, Refusal::IsDir, "isdir");
-    refusal_is(&rt, alloc, Refusal::Exists, "exists");
-    refusal_is(&rt, alloc, Refusal::NotEmpty, "notempty");
-    refusal_is(&rt, alloc, Refusal::Inside, "inside");
-    refusal_is(&rt, alloc, Refusal::TooBig, "toobig");
-    refusal_is(&rt, alloc, Refusal::NoNodes, "nonodes");
-    refusal_is(&rt, alloc, Refusal::NoSpace, "nospace");
-    refusal_is(&rt, alloc, Refusal::DirFull, "dirfull");
-    refusal_is(&rt, alloc, Refusal::PastEnd, "pastend");
+    refusal_is(&rt, alloc, Refusal::NotFound, "10 0 notfound");
+    refusal_is(&rt, alloc, Refusal::NotDir, "10 0 notdir");
+    refusal_is(&rt, alloc, Refusal::IsDir, "10 0 isdir");
+    refusal_is(&rt, alloc, Refusal::Exists, "10 0 exists");
+    refusal_is(&rt, alloc, Refusal::NotEmpty, "10 0 notempty");
+    refusal_is(&rt, alloc, Refusal::Inside, "10 0 inside");
+    refusal_is(&rt, alloc, Refusal::TooBig, "10 0 toobig");
+    refusal_is(&rt, alloc, Refusal::NoNodes, "10 0 nonodes");
+    refusal_is(&rt, alloc, Refusal::NoSpace, "10 0 nospace");
+    refusal_is(&rt, alloc, Refusal::DirFull, "10 0 dirfull");
+    refusal_is(&rt, alloc, Refusal::PastEnd, "10 0 pastend");
 }
 
 /// A receipt of so many cores, with bounds 3, 4 and 5.
