@@ -29,7 +29,7 @@ fn sizes_follow_from_their_numbers(rt: HostRuntime) {
 1 16 8 1 131072 1 1 2 14 25376
 1 64 8 2 131072 1 1 2 62 25384
 1 4096 1024 4 1048576 8 128 136 3960 25400";
-    assert_eq!(rt; lines.lines().count(), 4);
+    assert!(rt; lines.lines().count() == 4);
     for line in lines.lines() {
         let sizes = sizes(&rt, line).expect(&rt, line);
         keep_numbers(&rt, &sizes, line);
@@ -82,31 +82,31 @@ fn sizes_outside_their_limits_are_refused(rt: HostRuntime) {
 1 15 9 0 0 cores
 1 15 9 1 0 blocks
 1 64 9 1 0 nodes";
-    assert_eq!(rt; lines.lines().count(), 12);
+    assert!(rt; lines.lines().count() == 12);
     for line in lines.lines() {
         assert!(rt; sizes(&rt, line).is_none(), "{line}");
         assert!(rt; line.ends_with(told(&rt, line)), "{line}");
     }
-    assert_eq!(rt; told(&rt, "1 64 8 1 50752"), "none");
+    assert!(rt; told(&rt, "1 64 8 1 50752") == "none");
 }
 
 #[test]
 fn numbers_stand_lowest_byte_first(rt: HostRuntime) {
     let mut block = Block::zero();
     block.set_word(1, 0x0807_0605_0403_0201).expect(&rt, "word");
-    assert_eq!(rt; block.word(1), Some(0x0807_0605_0403_0201));
-    assert_eq!(rt; block.get_u32(8), Some(0x0403_0201));
-    assert_eq!(rt; block.get_u32(13), Some(0x0008_0706));
-    assert_eq!(rt; block.get_u32(7), Some(0x0302_0100));
-    assert_eq!(rt; block.byte(8), Some(1));
+    assert!(rt; block.word(1) == Some(0x0807_0605_0403_0201));
+    assert!(rt; block.get_u32(8) == Some(0x0403_0201));
+    assert!(rt; block.get_u32(13) == Some(0x0008_0706));
+    assert!(rt; block.get_u32(7) == Some(0x0302_0100));
+    assert!(rt; block.byte(8) == Some(1));
     block.put_u32(14, 0xddcc_bbaa).expect(&rt, "number");
-    assert_eq!(rt; block.word(1), Some(0xbbaa_0605_0403_0201));
-    assert_eq!(rt; block.word(2), Some(0xddcc));
+    assert!(rt; block.word(1) == Some(0xbbaa_0605_0403_0201));
+    assert!(rt; block.word(2) == Some(0xddcc));
     block.put_u32(10, 0x4433_2211).expect(&rt, "number");
-    assert_eq!(rt; block.word(1), Some(0xbbaa_4433_2211_0201));
+    assert!(rt; block.word(1) == Some(0xbbaa_4433_2211_0201));
     block.put_byte(511, 0xee).expect(&rt, "byte");
-    assert_eq!(rt; block.word(63), Some(0xee00_0000_0000_0000));
-    assert_eq!(rt; block.get_u32(508), Some(0xee00_0000));
+    assert!(rt; block.word(63) == Some(0xee00_0000_0000_0000));
+    assert!(rt; block.get_u32(508) == Some(0xee00_0000));
     assert!(rt; block.get_u32(509).is_none());
     assert!(rt; block.word(64).is_none());
     assert!(rt; block.byte(512).is_none());
@@ -119,9 +119,9 @@ fn bytes_come_back(rt: HostRuntime) {
     bytes[9] = 0x22;
     bytes[511] = 0x33;
     let block = Block::from_bytes(&bytes);
-    assert_eq!(rt; block.word(0), Some(0x11));
-    assert_eq!(rt; block.word(1), Some(0x2200));
-    assert_eq!(rt; block.words()[63], 0x3300_0000_0000_0000);
+    assert!(rt; block.word(0) == Some(0x11));
+    assert!(rt; block.word(1) == Some(0x2200));
+    assert!(rt; block.words()[63] == 0x3300_0000_0000_0000);
     let mut out = [7; 512];
     block.to_bytes(&mut out);
     assert!(rt; out == bytes);
@@ -140,8 +140,8 @@ fn each_core_has_a_tail(rt: HostRuntime) {
 fn each_core_has_a_bound(rt: HostRuntime) {
     let mut bounds = Bounds::zero();
     bounds.put(1, 9).expect(&rt, "bound");
-    assert_eq!(rt; bounds.at(0), Some(0));
-    assert_eq!(rt; bounds.at(1), Some(9));
+    assert!(rt; bounds.at(0) == Some(0));
+    assert!(rt; bounds.at(1) == Some(9));
     assert!(rt; bounds.put(64, 9).is_none());
 }
 
@@ -162,10 +162,10 @@ fn word_of(rt: &impl Abort, block: Option<&Block>) -> u64 {
 fn lists_keep_blocks(rt: HostRuntime) {
     let mut blocks = Blocks::zero(rt.alloc(), 3).expect(&rt, "memory");
     blocks.put(1, &block_with(&rt, 1)).expect(&rt, "block");
-    assert_eq!(rt; blocks.len(), 3);
-    assert_eq!(rt; word_of(&rt, blocks.at(0)), 0);
-    assert_eq!(rt; word_of(&rt, blocks.at(1)), 1);
-    assert_eq!(rt; word_of(&rt, blocks.at(2)), 0);
+    assert!(rt; blocks.len() == 3);
+    assert!(rt; word_of(&rt, blocks.at(0)) == 0);
+    assert!(rt; word_of(&rt, blocks.at(1)) == 1);
+    assert!(rt; word_of(&rt, blocks.at(2)) == 0);
     assert!(rt; blocks.at(3).is_none());
     assert!(rt; !blocks.is_empty());
 }
@@ -178,21 +178,21 @@ fn taken_blocks_are_found(rt: HostRuntime) {
     taken
         .add(BlockNo(7), &block_with(&rt, 1))
         .expect(&rt, "memory");
-    assert_eq!(rt; word_of(&rt, taken.get(BlockNo(7))), 1);
+    assert!(rt; word_of(&rt, taken.get(BlockNo(7))) == 1);
     let (number, found) = taken.at(0).expect(&rt, "entry");
-    assert_eq!(rt; number, BlockNo(7));
-    assert_eq!(rt; found.word(0), Some(1));
-    assert_eq!(rt; taken.len(), 1);
+    assert!(rt; number == BlockNo(7));
+    assert!(rt; found.word(0) == Some(1));
+    assert!(rt; taken.len() == 1);
     taken.clear();
-    assert_eq!(rt; taken.len(), 0);
+    assert!(rt; taken.len() == 0);
 }
 
 /// The entry at a place is this block, with this first word.
 fn stands(rt: &impl Abort, written: &Written, i: usize, number: u32, word: u64) {
     let (at, content) = written.at(i).expect(rt, "entry");
-    assert_eq!(rt; at, BlockNo(number));
-    assert_eq!(rt; content.word(0), Some(word));
-    assert_eq!(rt; word_of(rt, written.get(at)), word);
+    assert!(rt; at == BlockNo(number));
+    assert!(rt; content.word(0) == Some(word));
+    assert!(rt; word_of(rt, written.get(at)) == word);
 }
 
 #[test]
@@ -203,7 +203,7 @@ fn the_newest_content_counts(rt: HostRuntime) {
         let number = BlockNo(small(&rt, line, 0));
         written.put(number, &block).expect(&rt, "memory");
     }
-    assert_eq!(rt; written.len(), 3);
+    assert!(rt; written.len() == 3);
     assert!(rt; !written.is_empty());
     stands(&rt, &written, 0, 4, 2);
     stands(&rt, &written, 1, 6, 4);
