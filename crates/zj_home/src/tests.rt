@@ -50,7 +50,7 @@ fn image(rt: &impl Abort, alloc: Global) -> Vec<u8> {
     let (fault, disk) = made(rt, alloc, &[], None);
     assert!(rt; fault.is_none());
     let bytes = disk.image(alloc, Torn::Lost).expect(rt, "memory");
-    assert_eq!(rt; bytes.len(), 40960);
+    assert!(rt; bytes.len() == 40960);
     bytes
 }
 
@@ -65,11 +65,11 @@ fn a_home_has_its_bytes(rt: HostRuntime) {
     let slot =
         b"\x01ZJ-HOME\x01\0\0\0\0\0\0\0\x01\0\0\0\x01\0\0\0\x40\0\0\0\x08\0\0\0\x40\xc6\0\0\0\0\0\0\0\0\0\0\0\0\0\0\0\0\0\0\0\0\0\0\x07";
     assert_eq!(rt; bytes.get(..57), Some(slot.as_slice()));
-    assert_eq!(rt; byte(&rt, &bytes, 4096), 0);
-    assert_eq!(rt; byte(&rt, &bytes, 8192), 0);
-    assert_eq!(rt; byte(&rt, &bytes, 40959), 0);
+    assert!(rt; byte(&rt, &bytes, 4096) == 0);
+    assert!(rt; byte(&rt, &bytes, 8192) == 0);
+    assert!(rt; byte(&rt, &bytes, 40959) == 0);
     let large = Sizes::new(1, 4096, 8, 1, 50752).expect(&rt, "within the limits");
-    assert_eq!(rt; home_len(&large), 2_105_344);
+    assert!(rt; home_len(&large) == 2_105_344);
 }
 
 /// A block of a home begins with a byte.
@@ -77,7 +77,7 @@ fn has_block(rt: &impl Abort, home: &mut Home<MemDisk>, b: u32, byte: u8) {
     let mut block = Block::zero();
     assert!(rt; b < home.sizes().blocks());
     assert!(rt; home.read_block(BlockNo(b), &mut block).is_ok());
-    assert_eq!(rt; block.byte(0), Some(byte), "block {b}");
+    assert!(rt; block.byte(0) == Some(byte), "block {b}");
 }
 
 #[test]
@@ -90,7 +90,7 @@ fn a_home_opens(rt: HostRuntime) {
     };
     assert!(rt; *home.sizes() == sizes(&rt) && home.epoch() == 1);
     let (place, number) = (0, 0);
-    assert_eq!(rt; home.tail(0), Some(Tail { place, number }));
+    assert!(rt; home.tail(0) == Some(Tail { place, number }));
     assert!(rt; home.tail(1).is_none());
     has_block(&rt, &mut home, 2, 0);
     has_block(&rt, &mut home, 3, 9);
@@ -141,7 +141,7 @@ fn bytes_that_are_no_home_are_refused(rt: HostRuntime) {
 42 1: notanimage at 40
 55 64: notanimage at 48
 24 65: sizes found 40960 expected 41472";
-    assert_eq!(rt; open_changed(&rt, rt.alloc(), &bytes, lines), 11);
+    assert!(rt; open_changed(&rt, rt.alloc(), &bytes, lines) == 11);
     let cut = bytes.get(..40959).expect(&rt, "bytes");
     let told = opened(&rt, rt.alloc(), cut);
     assert_eq!(rt; told.as_str(), "sizes found 40959 expected 40960");
@@ -159,7 +159,7 @@ fn an_epoch_is_below_its_end(rt: HostRuntime) {
 15 64: notanimage at 8
 15 64, 16 2: version found 2
 15 64, 20 0: notanimage at 8";
-    assert_eq!(rt; open_changed(&rt, rt.alloc(), &bytes, lines), 4);
+    assert!(rt; open_changed(&rt, rt.alloc(), &bytes, lines) == 4);
 }
 
 #[test]
@@ -175,7 +175,7 @@ fn the_later_of_two_open_slots_counts(rt: HostRuntime) {
 4104 1, 4112 2: epoch 1
 4104 0: epoch 1
 4104 0, 4112 2: epoch 1";
-    assert_eq!(rt; open_changed(&rt, rt.alloc(), &bytes, lines), 6);
+    assert!(rt; open_changed(&rt, rt.alloc(), &bytes, lines) == 6);
 }
 
 #[test]
@@ -213,7 +213,7 @@ fn a_home_that_was_not_made_whole_does_not_open(rt: HostRuntime) {
 69 0 0 0 0
 70 0 0 1 0
 71 1 1 1 1";
-    assert_eq!(rt; lines.lines().count(), 11);
+    assert!(rt; lines.lines().count() == 11);
     for line in lines.lines() {
         stops(&rt, rt.alloc(), line);
     }
@@ -221,7 +221,7 @@ fn a_home_that_was_not_made_whole_does_not_open(rt: HostRuntime) {
 
 fn stops(rt: &impl Abort, alloc: Global, line: &str) {
     let (fault, disk) = made(rt, alloc, &[], Some(number(rt, line, 0)));
-    assert_eq!(rt; fault.is_none(), number(rt, line, 1) == 1, "{line}");
+    assert!(rt; fault.is_none() == (number(rt, line, 1) == 1), "{line}");
     leaves(rt, alloc, &disk, Torn::Lost, due(rt, line, 2));
     leaves(rt, alloc, &disk, Torn::Whole, due(rt, line, 3));
     leaves(rt, alloc, &disk, Torn::Filled(3), due(rt, line, 4));

@@ -100,8 +100,8 @@ fn tree_of(
     used: u32,
 ) -> Tree {
     let tree = read(rt, alloc, sizes, blocks).expect(rt, "a tree");
-    assert_eq!(rt; tree.nodes(), nodes);
-    assert_eq!(rt; tree.used(), used);
+    assert!(rt; tree.nodes() == nodes);
+    assert!(rt; tree.used() == used);
     tree
 }
 
@@ -116,7 +116,7 @@ fn file_at<'a>(rt: &impl Abort, tree: &'a Tree, i: usize) -> &'a [u8] {
 #[test]
 fn a_new_image_shows_the_root(rt: HostRuntime) {
     let lines = "64 8\n16 8\n4096 1024";
-    assert_eq!(rt; lines.lines().count(), 3);
+    assert!(rt; lines.lines().count() == 3);
     for line in lines.lines() {
         let sizes = sizes(&rt, number(&rt, line, 0), number(&rt, line, 1));
         let made = format(rt.alloc(), &sizes).expect(&rt, "memory");
@@ -128,11 +128,11 @@ fn a_new_image_shows_the_root(rt: HostRuntime) {
 fn a_new_image_has_these_words(rt: HostRuntime) {
     let made = format(rt.alloc(), &sizes(&rt, 64, 8)).expect(&rt, "memory");
     let map = content(&rt, &made, 0);
-    assert_eq!(rt; map.word(0), Some(0x0101));
-    assert_eq!(rt; map.word(7), Some(0));
-    assert_eq!(rt; map.word(8), Some(0x0101_0101_0101_0101));
-    assert_eq!(rt; map.word(63), Some(0x0101_0101_0101_0101));
-    assert_eq!(rt; content(&rt, &made, 1).word(0), Some(2));
+    assert!(rt; map.word(0) == Some(0x0101));
+    assert!(rt; map.word(7) == Some(0));
+    assert!(rt; map.word(8) == Some(0x0101_0101_0101_0101));
+    assert!(rt; map.word(63) == Some(0x0101_0101_0101_0101));
+    assert!(rt; content(&rt, &made, 1).word(0) == Some(2));
 }
 
 #[test]
@@ -140,14 +140,14 @@ fn an_image_shows_its_entries(rt: HostRuntime) {
     let sizes = sizes(&rt, 64, 8);
     let blocks = image(&rt, rt.alloc(), &sizes);
     let tree = tree_of(&rt, rt.alloc(), &sizes, &blocks, 4, 4);
-    assert_eq!(rt; tree.len(), 4);
+    assert!(rt; tree.len() == 4);
     let (path, _) = tree.at(2).expect(&rt, "an entry");
-    assert_eq!(rt; path.len(), 2);
+    assert!(rt; path.len() == 2);
     let name = path.at(1).expect(&rt, "a name");
     assert_eq!(rt; name.as_slice(), b"c".as_slice());
-    assert_eq!(rt; file_at(&rt, &tree, 2).len(), 0);
+    assert!(rt; file_at(&rt, &tree, 2).len() == 0);
     let bytes = file_at(&rt, &tree, 3);
-    assert_eq!(rt; bytes.len(), 600);
+    assert!(rt; bytes.len() == 600);
     assert!(rt; bytes[0] == 7 && bytes[1] == 0 && bytes[511] == 0 && bytes[599] == 8);
 }
 
@@ -158,7 +158,7 @@ fn breaks(rt: &impl Abort, alloc: Global, blocks: &mut Blocks, sizes: &Sizes, li
         set_lines(rt, blocks, number);
     }
     let wanted = (number(rt, due, 0), number(rt, due, 1));
-    assert_eq!(rt; fault(rt, alloc, sizes, blocks), wanted, "{line}");
+    assert!(rt; fault(rt, alloc, sizes, blocks) == wanted, "{line}");
 }
 
 /// A block, a place and a number each, and the rule and the block that are told.
@@ -192,7 +192,7 @@ fn a_broken_image_names_rule_and_block(rt: HostRuntime) {
 0 4 x0201 | 6 0
 0 64 0, 0 508 7 | 0 0
 5 508 7, 2 64 7 | 0 0";
-    assert_eq!(rt; lines.lines().count(), 28);
+    assert!(rt; lines.lines().count() == 28);
     let sizes = sizes(&rt, 64, 8);
     for line in lines.lines() {
         let mut blocks = image(&rt, rt.alloc(), &sizes);
@@ -255,7 +255,7 @@ fn root_with(rt: &impl Abort, alloc: Global, sizes: &Sizes, entries: u32) -> Blo
 #[test]
 fn a_directory_has_up_to_192_entries(rt: HostRuntime) {
     let lines = "16 1\n17 2\n192 12";
-    assert_eq!(rt; lines.lines().count(), 3);
+    assert!(rt; lines.lines().count() == 3);
     let sizes = sizes(&rt, 64, 200);
     for line in lines.lines() {
         has_entries(&rt, rt.alloc(), &sizes, line);
@@ -296,8 +296,8 @@ fn is_deep(rt: &impl Abort, alloc: Global, count: u32, nodes: u16, first: u16) {
     let blocks = chain(rt, alloc, &sizes, nodes, first);
     let tree = tree_of(rt, alloc, &sizes, &blocks, 21, 20);
     let (path, _) = tree.at(20).expect(rt, "an entry");
-    assert_eq!(rt; path.len(), 20, "at {count}");
-    assert_eq!(rt; file_at(rt, &tree, 20).len(), 0, "at {count}");
+    assert!(rt; path.len() == 20, "at {count}");
+    assert!(rt; file_at(rt, &tree, 20).len() == 0, "at {count}");
 }
 
 #[test]
@@ -312,7 +312,7 @@ fn a_map_of_two_blocks_is_read(rt: HostRuntime) {
 1 88 0 | 6 1
 0 20 1 | 6 0
 1 108 0 | 0 0";
-    assert_eq!(rt; lines.lines().count(), 4);
+    assert!(rt; lines.lines().count() == 4);
     let sizes = sizes(&rt, 1024, 24);
     for line in lines.lines() {
         let mut blocks = chain(&rt, rt.alloc(), &sizes, 2, 600);
@@ -331,12 +331,12 @@ fn what_is_put_is_read(rt: HostRuntime) {
     put_node(&mut content, 3, &node);
     let found = node_at(&content, 3).expect(&rt, "a node");
     assert!(rt; found.kind == node.kind && found.size == 600 && found.blocks == node.blocks);
-    assert_eq!(rt; content.get_u32(196), Some(600));
+    assert!(rt; content.get_u32(196) == Some(600));
     let name = Name::new(b"a.b").expect(&rt, "a name");
     put_link(&mut content, 15, &Link { node: 7, name });
     let link = link_at(&content, 15).expect(&rt, "an entry");
-    assert_eq!(rt; link.node, 7);
-    assert_eq!(rt; content.get_u32(486), Some(0x0062_2e61));
+    assert!(rt; link.node == 7);
+    assert!(rt; content.get_u32(486) == Some(0x0062_2e61));
     put_in_use(&mut content, 9, true);
-    assert_eq!(rt; content.byte(9), Some(1));
+    assert!(rt; content.byte(9) == Some(1));
 }

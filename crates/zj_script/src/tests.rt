@@ -88,7 +88,7 @@ fn reads_calls(rt: HostRuntime) {
 1: line 4 column 8 kind 3: #||0 list /|0 list a|0 x
 1: 1 lines: 0 mkdir /a/b/c/d/e/f/g/h/i/j/k/l/m/n/o/p
 1: line 1 column 9 kind 3: 0 mkdir /a/b/c/d/e/f/g/h/i/j/k/l/m/n/o/p/q";
-    assert_eq!(rt; lines.lines().count(), 37);
+    assert!(rt; lines.lines().count() == 37);
     for line in lines.lines() {
         reads_call(&rt, rt.alloc(), line);
     }
@@ -129,7 +129,7 @@ line 1 column 9 kind 2: line 1 column 3 kind 2: 0 begin take
 line 1 column 20 kind 5: line 1 column 3 kind 2: 0 begin write /a 0_
 line 1 column 8 kind 2: line 1 column 3 kind 2: 0 take_
 line 2 column 8 kind 2: line 2 column 3 kind 2: 0 list /|0 stop x";
-    assert_eq!(rt; lines.lines().count(), 12);
+    assert!(rt; lines.lines().count() == 12);
     for line in lines.lines() {
         reads_act(&rt, rt.alloc(), line);
     }
@@ -230,7 +230,7 @@ fn writes_lines(rt: HostRuntime) {
 0 sync
 checkpoint
 ";
-    assert_eq!(rt; rewritten(&rt, rt.alloc(), lines), 19);
+    assert!(rt; rewritten(&rt, rt.alloc(), lines) == 19);
 }
 
 /// The number of a line, and its core.
@@ -242,20 +242,20 @@ fn place_of(line: Option<&Line>) -> Option<(u32, Option<u32>)> {
 fn numbers_lines(rt: HostRuntime) {
     let text = b"#\n\n1 list /\n#\n0 fsync /";
     let script = read_script(rt.alloc(), 2, text).expect(&rt, "a script");
-    assert_eq!(rt; place_of(script.at(0)), Some((3, Some(1))));
-    assert_eq!(rt; place_of(script.at(1)), Some((5, Some(0))));
-    assert_eq!(rt; place_of(script.at(2)), None);
+    assert!(rt; place_of(script.at(0)) == Some((3, Some(1))));
+    assert!(rt; place_of(script.at(1)) == Some((5, Some(0))));
+    assert!(rt; place_of(script.at(2)) == None);
     let text = b"\ncheckpoint\n1 take";
     let schedule = read_schedule(rt.alloc(), 2, text).expect(&rt, "a schedule");
-    assert_eq!(rt; place_of(schedule.at(0)), Some((2, None)));
-    assert_eq!(rt; place_of(schedule.at(1)), Some((3, Some(1))));
-    assert_eq!(rt; place_of(schedule.at(2)), None);
+    assert!(rt; place_of(schedule.at(0)) == Some((2, None)));
+    assert!(rt; place_of(schedule.at(1)) == Some((3, Some(1))));
+    assert!(rt; place_of(schedule.at(2)) == None);
 }
 
 /// A kind has this number, and what is due there has this word in it.
 fn kind_is(rt: &impl Abort, kind: Kind, number: u32, word: &str) {
-    assert_eq!(rt; kind.number(), number);
-    assert_eq!(rt; Kind::from_number(number), Some(kind));
+    assert!(rt; kind.number() == number);
+    assert!(rt; Kind::from_number(number) == Some(kind));
     assert!(rt; kind.due().contains(word), "{word}");
 }
 
@@ -267,8 +267,8 @@ fn tells_kinds(rt: HostRuntime) {
     kind_is(&rt, Kind::BadNumber, 4, "number");
     kind_is(&rt, Kind::BadText, 5, "bytes");
     kind_is(&rt, Kind::TooLong, 6, "end");
-    assert_eq!(rt; Kind::from_number(0), None);
-    assert_eq!(rt; Kind::from_number(7), None);
+    assert!(rt; Kind::from_number(0) == None);
+    assert!(rt; Kind::from_number(7) == None);
 }
 
 /// An answer of a core is spelled so, behind the number of its line.
