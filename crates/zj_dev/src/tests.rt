@@ -37,16 +37,16 @@ fn a_source_over_a_reader_gives_its_bytes(rt: HostRuntime) {
 #[test]
 fn a_sink_over_a_writer_passes_bytes_on(rt: HostRuntime) {
     let mut sink = OutSink::new(Vec::new(rt.alloc()));
-    assert_eq!(rt; sink.write(b"ab"), Ok(2));
-    assert_eq!(rt; sink.write(b""), Ok(0));
+    assert!(rt; sink.write(b"ab") == Ok(2));
+    assert!(rt; sink.write(b"") == Ok(0));
 }
 
 #[test]
 fn a_sink_fails_where_it_was_told_to(rt: HostRuntime) {
     let mut sink = MemSink::new(rt.alloc(), &[1]).expect(&rt, "memory");
-    assert_eq!(rt; sink.write(b"ab"), Ok(2));
-    assert_eq!(rt; sink.write(b"cd"), Err(WriteFailed));
-    assert_eq!(rt; sink.write(b"e"), Ok(1));
+    assert!(rt; sink.write(b"ab") == Ok(2));
+    assert!(rt; sink.write(b"cd") == Err(WriteFailed));
+    assert!(rt; sink.write(b"e") == Ok(1));
     assert_eq!(rt; sink.bytes(), b"abe".as_slice());
 }
 
@@ -84,7 +84,7 @@ fn worked(rt: &impl Abort, disk: &mut MemDisk, line: &str) {
     assert!(rt; disk.len() == 4);
     answers(rt, disk.read(0, &mut held).is_ok(), line, 3);
     assert_eq!(rt; held.as_slice(), word(rt, line, 4).as_bytes(), "{line}");
-    assert_eq!(rt; disk.calls(), 4);
+    assert!(rt; disk.calls() == 4);
 }
 
 /// A crash leaves the bytes at a place of a line.
@@ -129,7 +129,7 @@ fn a_disk_fails_and_tears_as_it_was_told(rt: HostRuntime) {
 #[test]
 fn a_fault_of_a_disk_is_handed_on(rt: HostRuntime) {
     let mut disk = MemDisk::new(rt.alloc(), b"0123", &[2, 3], None).expect(&rt, "memory");
-    assert_eq!(rt; disk.len(), 4);
+    assert!(rt; disk.len() == 4);
     let line = "ok ok fault fault";
     answers(&rt, write_at(&mut disk, 1, b"ab").is_ok(), line, 0);
     answers(&rt, sync(&mut disk).is_ok(), line, 1);
@@ -194,9 +194,9 @@ fn devices_are_taken_and_put(rt: HostRuntime) {
     assert!(rt; before.is_none());
     let other = MemDisk::new(rt.alloc(), b"x", &[], None).expect(&rt, "memory");
     let before = shelf.put("j0", other).expect(&rt, "memory");
-    assert_eq!(rt; before.expect(&rt, "put before").len(), 4);
+    assert!(rt; before.expect(&rt, "put before").len() == 4);
     assert!(rt; shelf.take("home").is_none());
-    assert_eq!(rt; opened(&rt, &mut shelf, "j0").len(), 1);
+    assert!(rt; opened(&rt, &mut shelf, "j0").len() == 1);
 }
 
 #[test]
@@ -212,11 +212,11 @@ fn a_folder_keeps_its_files(rt: HostRuntime) {
     write_two(&rt, &mut home, 4095, 4098);
     shelf.close("home", home).expect(&rt, "no fault");
     let mut home = opened(&rt, &mut shelf, "home");
-    assert_eq!(rt; home.len(), 4098);
+    assert!(rt; home.len() == 4098);
     let mut bytes = [b'-'; 5];
     assert!(rt; home.read(4093, &mut bytes).is_ok());
-    assert_eq!(rt; bytes, *b"\0\0ab\0");
-    assert_eq!(rt; home.calls(), 1);
+    assert!(rt; bytes == *b"\0\0ab\0");
+    assert!(rt; home.calls() == 1);
     shelf.close("home", home).expect(&rt, "no fault");
     std::fs::remove_file(&rt, "home").expect(&rt, "removed");
 }
