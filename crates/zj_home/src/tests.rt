@@ -1,11 +1,8 @@
 //! A home in memory: its bytes, each refusal once, and each call failing or the last.
 
-ghost use Rattle.std.specs.Prelude.{◌≡◌, length};
-
 use super::*;
-use std::alloc::{AllocError, Global};
+use std::alloc::Global;
 use std::process::Abort;
-use std::test::Fail;
 use zj_block::{Block, BlockNo, Blocks, Sizes, Tail};
 use zj_dev::{Disk, MemDisk, Torn};
 
@@ -20,224 +17,248 @@ fn made(
     alloc: Global,
     failing: &[u64],
     stop: Option<u64>,
-) -> Result<(Option<HomeFault>, MemDisk), AllocError> {
-    let bytes = vec![in alloc; 7u8; 40960]?;
-    let disk = MemDisk::new(alloc, &bytes, failing, stop)?;
+) -> (Option<HomeFault>, MemDisk) {
+    let bytes = vec![in alloc; 7u8; 40960].expect(rt, "memory");
+    let disk = MemDisk::new(alloc, &bytes, failing, stop).expect(rt, "memory");
     let sizes = sizes(rt);
-    let blocks = Blocks::zero(alloc, 64)?;
-    assert_eq!(rt; disk.len(), 40960);
-    assert_eq!(rt; home_len(&sizes), 40960);
-    assert_eq!(rt; blocks.len(), 64);
-    assert_eq!(rt; sizes.blocks(), 64);
+    let blocks = Blocks::zero(alloc, 64).expect(rt, "memory");
+    assert!(rt; disk.len() == 40960 && home_len(&sizes) == 40960);
+    assert!(rt; blocks.len() == 64 && sizes.blocks() == 64);
     match Home::make(alloc, disk, &sizes, &blocks) {
-        Ok(home) => Ok((None, home.into_device())),
-        Err(refused) => Ok((Some(refused.fault), refused.device)),
+        Ok(home) => (None, home.into_device()),
+        Err(refused) => (Some(refused.fault), refused.device),
     }
 }
 
-/// What opening a device with these bytes answers: the epoch, or the fault.
-fn opened(alloc: Global, bytes: &[u8]) -> Result<Result<u64, HomeFault>, AllocError> {
-    let disk = MemDisk::new(alloc, bytes, &[], None)?;
+/// What opening a device with these bytes tells: the epoch, or the fault.
+fn opened(rt: &impl Abort, alloc: Global, bytes: &[u8]) -> String {
+    let disk = MemDisk::new(alloc, bytes, &[], None).expect(rt, "memory");
     match Home::open(alloc, disk) {
-        Ok(home) => Ok(Ok(home.epoch())),
-        Err(refused) => Ok(Err(refused.fault)),
+        Ok(home) => {
+            let epoch = home.epoch();
+            format!(in alloc; "epoch {epoch}").expect(rt, "memory")
+        }
+        Err(refused) => {
+            let fault = refused.fault;
+            format!(in alloc; "{fault}").expect(rt, "memory")
+        }
     }
 }
 
 /// The bytes of a home that was just made.
-fn image(rt: &impl Abort, alloc: Global) -> Result<Vec<u8>, AllocError> {
-    let (fault, disk) = made(rt, alloc, &[], None)?;
-    assert_eq!(rt; fault, None);
-    disk.image(alloc, Torn::Lost)
+fn image(rt: &impl Abort, alloc: Global) -> Vec<u8> {
+    let (fault, disk) = made(rt, alloc, &[], None);
+    assert!(rt; fault.is_none());
+    let bytes = disk.image(alloc, Torn::Lost).expect(rt, "memory");
+    assert!(rt; bytes.len() == 40960);
+    bytes
 }
 
-/// The first bytes.
-fn front<'a>(rt: &impl Abort, bytes: &'a [u8], count: usize) -> &'a [u8]
-    ensures { length result.now ≡ count }
-{
-    assert!(rt; count <= bytes.len());
-    &bytes[..count]
+/// The byte at a place.
+fn byte(rt: &impl Abort, bytes: &[u8], place: usize) -> u8 {
+    *bytes.get(place).expect(rt, "a byte")
 }
 
 #[test]
-fn a_home_has_its_bytes(rt: HostRuntime) -> Result<(), Fail> {
-    let bytes = image(&rt, rt.alloc())?;
-    assert_eq!(rt; bytes.len(), 40960);
-    let slot = [
-        1, 0x5a, 0x4a, 0x2d, 0x48, 0x4f, 0x4d, 0x45, 1, 0, 0, 0, 0, 0, 0, 0, 1, 0, 0, 0, 1, 0, 0,
-        0, 0x40, 0, 0, 0, 8, 0, 0, 0, 0x40, 0xc6, 0, 0, 0, 0, 0, 0, 0, 0, 0, 0, 0, 0, 0, 0, 0, 0,
-        0, 0, 0, 0, 0, 0,
-    ];
-    assert_eq!(rt; front(&rt, &bytes, 56), slot.as_slice());
-    assert_eq!(rt; bytes[56], 7);
-    assert_eq!(rt; bytes[4096], 0);
-    assert_eq!(rt; bytes[8192], 0);
-    assert_eq!(rt; bytes[40959], 0);
+fn a_home_has_its_bytes(rt: HostRuntime) {
+    let bytes = image(&rt, rt.alloc());
+    let slot =
+        b"\x01ZJ-HOME\x01\0\0\0\0\0\0\0\x01\0\0\0\x01\0\0\0\x40\0\0\0\x08\0\0\0\x40\xc6\0\0\0\0\0\0\0\0\0\0\0\0\0\0\0\0\0\0\0\0\0\0\x07";
+    assert_eq!(rt; bytes.get(..57), Some(slot.as_slice()));
+    assert!(rt; byte(&rt, &bytes, 4096) == 0);
+    assert!(rt; byte(&rt, &bytes, 8192) == 0);
+    assert!(rt; byte(&rt, &bytes, 40959) == 0);
     let large = Sizes::new(1, 4096, 8, 1, 50752).expect(&rt, "within the limits");
-    assert_eq!(rt; home_len(&large), 2_105_344);
-    Ok(())
+    assert!(rt; home_len(&large) == 2_105_344);
 }
 
-#[test]
-fn a_home_opens(rt: HostRuntime) -> Result<(), Fail> {
-    let mut bytes = image(&rt, rt.alloc())?;
-    assert_eq!(rt; bytes.len(), 40960);
-    bytes[8192 + 512 * 3] = 9;
-    let disk = MemDisk::new(rt.alloc(), &bytes, &[], None)?;
-    let Ok(mut home) = Home::open(rt.alloc(), disk) else {
-        return Err("refused".into());
-    };
-    assert_eq!(rt; *home.sizes(), sizes(&rt));
-    assert_eq!(rt; home.epoch(), 1);
-    assert_eq!(rt;
-        home.tail(0),
-        Some(Tail {
-            place: 0,
-            number: 0
-        })
-    );
-    assert_eq!(rt; home.tail(1), None);
-    assert_eq!(rt; home.sizes().blocks(), 64);
+/// A block of a home begins with a byte.
+fn has_block(rt: &impl Abort, home: &mut Home<MemDisk>, b: u32, byte: u8) {
     let mut block = Block::zero();
-    for (b, byte) in [(2, 0), (3, 9), (4, 0)] {
-        assert!(rt; b < home.sizes().blocks());
-        assert_eq!(rt; home.read_block(BlockNo(b), &mut block), Ok(()));
-        assert_eq!(rt; block.byte(0), Some(byte), "block {b}");
-    }
-    Ok(())
+    assert!(rt; b < home.sizes().blocks());
+    assert!(rt; home.read_block(BlockNo(b), &mut block).is_ok());
+    assert!(rt; block.byte(0) == Some(byte), "block {b}");
 }
 
 #[test]
-fn bytes_that_are_no_home_are_refused(rt: HostRuntime) -> Result<(), Fail> {
-    let bytes = image(&rt, rt.alloc())?;
-    for (at, byte, fault) in [
-        (0, 7, HomeFault::NotAnImage { at: 0 }),
-        (7, b'X', HomeFault::NotAnImage { at: 1 }),
-        (16, 2, HomeFault::Version { found: 2 }),
-        (15, 0x40, HomeFault::NotAnImage { at: 8 }),
-        (20, 0, HomeFault::NotAnImage { at: 20 }),
-        (24, 15, HomeFault::NotAnImage { at: 24 }),
-        (28, 9, HomeFault::NotAnImage { at: 28 }),
-        (33, 0xc5, HomeFault::NotAnImage { at: 32 }),
-        (42, 1, HomeFault::NotAnImage { at: 40 }),
-        (55, 0x40, HomeFault::NotAnImage { at: 48 }),
-        (
-            24,
-            65,
-            HomeFault::Sizes {
-                found: 40960,
-                expected: 41472,
-            },
-        ),
-    ] {
-        let mut changed = Vec::from_slice(rt.alloc(), &bytes)?;
-        assert!(rt; at < changed.len());
-        changed[at] = byte;
-        assert_eq!(rt; opened(rt.alloc(), &changed)?, Err(fault), "at {at}");
-    }
-    assert_eq!(rt; bytes.len(), 40960);
-    let cut = HomeFault::Sizes {
-        found: 40959,
-        expected: 40960,
+fn a_home_opens(rt: HostRuntime) {
+    let mut bytes = image(&rt, rt.alloc());
+    *bytes.get_mut(8192 + 512 * 3).expect(&rt, "a byte") = 9;
+    let disk = MemDisk::new(rt.alloc(), &bytes, &[], None).expect(&rt, "memory");
+    let Ok(mut home) = Home::open(rt.alloc(), disk) else {
+        panic!(rt; "refused")
     };
-    assert_eq!(rt; opened(rt.alloc(), front(&rt, &bytes, 40959))?, Err(cut));
-    let short = HomeFault::NotAnImage { at: 0 };
-    assert_eq!(rt; opened(rt.alloc(), front(&rt, &bytes, 8191))?, Err(short));
-    Ok(())
+    assert!(rt; *home.sizes() == sizes(&rt) && home.epoch() == 1);
+    let (place, number) = (0, 0);
+    assert!(rt; home.tail(0) == Some(Tail { place, number }));
+    assert!(rt; home.tail(1).is_none());
+    has_block(&rt, &mut home, 2, 0);
+    has_block(&rt, &mut home, 3, 9);
+    has_block(&rt, &mut home, 4, 0);
+}
+
+/// The number at a place of a line.
+fn number(rt: &impl Abort, line: &str, place: usize) -> u64 {
+    let word = line.split(' ').nth(place).expect(rt, line);
+    word.parse::<u64>().expect(rt, line)
+}
+
+/// The bytes of a home, of which those that a text names are changed: the place and the value of each.
+fn changed(rt: &impl Abort, alloc: Global, bytes: &[u8], text: &str) -> Vec<u8> {
+    let mut changed = Vec::from_slice(alloc, bytes).expect(rt, "memory");
+    for change in text.split(", ") {
+        let place = number(rt, change, 0) as usize;
+        let value = u8::try_from(number(rt, change, 1)).expect(rt, change);
+        *changed.get_mut(place).expect(rt, change) = value;
+    }
+    changed
+}
+
+/// In front of the colon of each line stand the bytes of a home that are changed, and behind it what opening it tells then.
+/// Tells how many lines there are.
+fn open_changed(rt: &impl Abort, alloc: Global, bytes: &[u8], lines: &str) -> u32 {
+    let mut count = 0u32;
+    for line in lines.lines() {
+        let (changes, due) = line.split_once(": ").expect(rt, line);
+        let bytes = changed(rt, alloc, bytes, changes);
+        assert_eq!(rt; opened(rt, alloc, &bytes).as_str(), due, "{line}");
+        count = count.wrapping_add(1);
+    }
+    count
 }
 
 #[test]
-fn an_epoch_is_below_its_end(rt: HostRuntime) -> Result<(), Fail> {
-    let mut bytes = image(&rt, rt.alloc())?;
-    assert_eq!(rt; bytes.len(), 40960);
+fn bytes_that_are_no_home_are_refused(rt: HostRuntime) {
+    let bytes = image(&rt, rt.alloc());
+    let lines = "0 7: notanimage at 0
+7 88: notanimage at 1
+16 2: version found 2
+15 64: notanimage at 8
+20 0: notanimage at 20
+24 15: notanimage at 24
+28 9: notanimage at 28
+33 197: notanimage at 32
+42 1: notanimage at 40
+55 64: notanimage at 48
+24 65: sizes found 40960 expected 41472";
+    assert!(rt; open_changed(&rt, rt.alloc(), &bytes, lines) == 11);
+    let cut = bytes.get(..40959).expect(&rt, "bytes");
+    let told = opened(&rt, rt.alloc(), cut);
+    assert_eq!(rt; told.as_str(), "sizes found 40959 expected 40960");
+    let short = bytes.get(..8191).expect(&rt, "bytes");
+    let told = opened(&rt, rt.alloc(), short);
+    assert_eq!(rt; told.as_str(), "notanimage at 0");
+}
+
+#[test]
+fn an_epoch_is_below_its_end(rt: HostRuntime) {
+    let mut bytes = image(&rt, rt.alloc());
+    assert!(rt; bytes.len() == 40960);
     bytes[8..15].fill(0xff);
-    for (last, opens) in [
-        (0x3f, Ok((1 << 62) - 1)),
-        (0x40, Err(HomeFault::NotAnImage { at: 8 })),
-    ] {
-        bytes[15] = last;
-        assert_eq!(rt; opened(rt.alloc(), &bytes)?, opens);
-    }
-    bytes[16] = 2;
-    let version = HomeFault::Version { found: 2 };
-    assert_eq!(rt; opened(rt.alloc(), &bytes)?, Err(version));
-    bytes[16] = 1;
-    bytes[20] = 0;
-    let epoch = HomeFault::NotAnImage { at: 8 };
-    assert_eq!(rt; opened(rt.alloc(), &bytes)?, Err(epoch));
-    Ok(())
+    let lines = "15 63: epoch 4611686018427387903
+15 64: notanimage at 8
+15 64, 16 2: version found 2
+15 64, 20 0: notanimage at 8";
+    assert!(rt; open_changed(&rt, rt.alloc(), &bytes, lines) == 4);
 }
 
 #[test]
-fn the_later_of_two_open_slots_counts(rt: HostRuntime) -> Result<(), Fail> {
-    for (epoch, counts) in [(2, 2), (1, 1), (0, 1)] {
-        let mut bytes = image(&rt, rt.alloc())?;
-        assert_eq!(rt; bytes.len(), 40960);
-        let slot = Vec::from_slice(rt.alloc(), front(&rt, &bytes, 56))?;
-        bytes[4096..4152].copy_from_slice(&slot);
-        bytes[4104] = epoch;
-        assert_eq!(rt; opened(rt.alloc(), &bytes)?, Ok(counts));
-        bytes[4112] = 2;
-        let version = if counts == 2 {
-            Err(HomeFault::Version { found: 2 })
-        } else {
-            Ok(1)
-        };
-        assert_eq!(rt; opened(rt.alloc(), &bytes)?, version);
+fn the_later_of_two_open_slots_counts(rt: HostRuntime) {
+    let mut bytes = image(&rt, rt.alloc());
+    for i in 0..56 {
+        let byte = byte(&rt, &bytes, i);
+        *bytes.get_mut(4096 + i).expect(&rt, "a byte") = byte;
     }
-    Ok(())
+    let lines = "4104 2: epoch 2
+4104 2, 4112 2: version found 2
+4104 1: epoch 1
+4104 1, 4112 2: epoch 1
+4104 0: epoch 1
+4104 0, 4112 2: epoch 1";
+    assert!(rt; open_changed(&rt, rt.alloc(), &bytes, lines) == 6);
 }
 
 #[test]
-fn a_call_that_fails_is_a_fault_of_the_disk(rt: HostRuntime) -> Result<(), Fail> {
+fn a_call_that_fails_is_a_fault_of_the_disk(rt: HostRuntime) {
     for call in 0..71 {
-        let (fault, _) = made(&rt, rt.alloc(), &[call], None)?;
-        assert_eq!(rt; fault, Some(HomeFault::DiskFault), "call {call}");
+        let (fault, _) = made(&rt, rt.alloc(), &[call], None);
+        assert!(rt; fault == Some(HomeFault::DiskFault), "call {call}");
     }
-    let bytes = image(&rt, rt.alloc())?;
-    let disk = MemDisk::new(rt.alloc(), &bytes, &[0], None)?;
-    let fault = Home::open(rt.alloc(), disk)
-        .map(|_| ())
-        .map_err(|refused| refused.fault);
-    assert_eq!(rt; fault, Err(HomeFault::DiskFault));
-    Ok(())
+    let bytes = image(&rt, rt.alloc());
+    let disk = MemDisk::new(rt.alloc(), &bytes, &[0], None).expect(&rt, "memory");
+    match Home::open(rt.alloc(), disk) {
+        Ok(_) => panic!(rt; "opened"),
+        Err(refused) => assert!(rt; refused.fault == HomeFault::DiskFault),
+    }
+}
+
+/// What a crash leaves of a device opens so.
+fn leaves(rt: &impl Abort, alloc: Global, disk: &MemDisk, torn: Torn, due: &str) {
+    let bytes = disk.image(alloc, torn).expect(rt, "memory");
+    assert_eq!(rt; opened(rt, alloc, &bytes).as_str(), due, "{torn:?}");
+}
+
+/// From which call on all fail, whether the home is made nevertheless, and whether it opens once the bytes that were not
+/// synced are lost, are there, or are others.
+#[test]
+fn a_home_that_was_not_made_whole_does_not_open(rt: HostRuntime) {
+    let lines = "0 0 0 0 0
+1 0 0 0 0
+63 0 0 0 0
+64 0 0 0 0
+65 0 0 0 0
+66 0 0 0 0
+67 0 0 0 0
+68 0 0 0 0
+69 0 0 0 0
+70 0 0 1 0
+71 1 1 1 1";
+    assert!(rt; lines.lines().count() == 11);
+    for line in lines.lines() {
+        stops(&rt, rt.alloc(), line);
+    }
+}
+
+fn stops(rt: &impl Abort, alloc: Global, line: &str) {
+    let (fault, disk) = made(rt, alloc, &[], Some(number(rt, line, 0)));
+    assert!(rt; fault.is_none() == (number(rt, line, 1) == 1), "{line}");
+    leaves(rt, alloc, &disk, Torn::Lost, due(rt, line, 2));
+    leaves(rt, alloc, &disk, Torn::Whole, due(rt, line, 3));
+    leaves(rt, alloc, &disk, Torn::Filled(3), due(rt, line, 4));
+}
+
+/// What is told of a home that opens or doesn't.
+fn due(rt: &impl Abort, line: &str, place: usize) -> &'static str {
+    if number(rt, line, place) == 1 {
+        "epoch 1"
+    } else {
+        "notanimage at 0"
+    }
+}
+
+/// A fault has a text.
+fn has_text(rt: &impl Abort, alloc: Global, fault: HomeFault, due: &str) {
+    let text = format!(in alloc; "{fault}").expect(rt, "memory");
+    assert_eq!(rt; text.as_str(), due);
 }
 
 #[test]
-fn a_home_that_was_not_made_whole_does_not_open(rt: HostRuntime) -> Result<(), Fail> {
-    for stop in [0, 1, 63, 64, 65, 66, 67, 68, 69, 70, 71] {
-        let (fault, disk) = made(&rt, rt.alloc(), &[], Some(stop))?;
-        assert_eq!(rt; fault.is_none(), stop == 71, "stop {stop}");
-        for torn in [Torn::Lost, Torn::Whole, Torn::Filled(3)] {
-            let found = opened(rt.alloc(), &disk.image(rt.alloc(), torn)?)?;
-            let whole = stop == 71 || (stop == 70 && torn == Torn::Whole);
-            let expected = if whole {
-                Ok(1)
-            } else {
-                Err(HomeFault::NotAnImage { at: 0 })
-            };
-            assert_eq!(rt; found, expected, "stop {stop}");
-        }
-    }
-    Ok(())
-}
-
-#[test]
-fn faults_have_their_texts(rt: HostRuntime) -> Result<(), Fail> {
-    for (fault, text) in [
-        (HomeFault::DiskFault, "disk"),
-        (HomeFault::NotAnImage { at: 41 }, "notanimage at 41"),
-        (HomeFault::Version { found: 2 }, "version found 2"),
-        (
-            HomeFault::Sizes {
-                found: 1,
-                expected: 2,
-            },
-            "sizes found 1 expected 2",
-        ),
-        (HomeFault::NoMemory, "memory"),
-    ] {
-        assert_eq!(rt; format!(in rt.alloc(); "{fault}")?.as_str(), text);
-    }
-    Ok(())
+fn faults_have_their_texts(rt: HostRuntime) {
+    has_text(&rt, rt.alloc(), HomeFault::DiskFault, "disk");
+    has_text(
+        &rt,
+        rt.alloc(),
+        HomeFault::NotAnImage { at: 41 },
+        "notanimage at 41",
+    );
+    has_text(
+        &rt,
+        rt.alloc(),
+        HomeFault::Version { found: 2 },
+        "version found 2",
+    );
+    let (found, expected) = (1, 2);
+    let sizes = HomeFault::Sizes { found, expected };
+    has_text(&rt, rt.alloc(), sizes, "sizes found 1 expected 2");
+    has_text(&rt, rt.alloc(), HomeFault::NoMemory, "memory");
 }

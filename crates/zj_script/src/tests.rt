@@ -1,318 +1,349 @@
-//! Scripts and schedules read, and lines and answers spelled.
+//! Scripts and schedules read, and lines and answers spelled: texts with a case a line.
 
 use super::*;
-use std::alloc::{AllocError, Global};
-use std::test::Fail;
+use std::alloc::Global;
+use std::process::Abort;
 use zj_dev::Device;
 use zj_tree::{Bytes, Name, Names, Refusal, Reply};
 
-/// Kind, line and column where an input is refused, or how many lines it has.
-fn read(
-    alloc: Global,
-    cores: u32,
-    input: &[u8],
-) -> Result<Result<usize, (u32, u32, u32)>, AllocError> {
+/// How many lines a schedule has, or where it is refused.
+fn schedule_told(rt: &impl Abort, alloc: Global, cores: u32, input: &[u8]) -> String {
     match read_schedule(alloc, cores, input) {
-        Ok(schedule) => Ok(Ok(schedule.len())),
-        Err(ScriptFault::Refused { kind, line, column }) => Ok(Err((kind, line, column))),
-        Err(ScriptFault::NoMemory) => Err(AllocError),
+        Ok(schedule) => {
+            let count = schedule.len();
+            format!(in alloc; "{count} lines").expect(rt, "memory")
+        }
+        Err(fault) => format!(in alloc; "{fault}").expect(rt, "memory"),
     }
 }
 
 /// The same of a script.
-fn read_calls(
-    alloc: Global,
-    cores: u32,
-    input: &[u8],
-) -> Result<Result<usize, (u32, u32, u32)>, AllocError> {
+fn script_told(rt: &impl Abort, alloc: Global, cores: u32, input: &[u8]) -> String {
     match read_script(alloc, cores, input) {
-        Ok(script) => Ok(Ok(script.len())),
-        Err(ScriptFault::Refused { kind, line, column }) => Ok(Err((kind, line, column))),
-        Err(ScriptFault::NoMemory) => Err(AllocError),
+        Ok(script) => {
+            let count = script.len();
+            format!(in alloc; "{count} lines").expect(rt, "memory")
+        }
+        Err(fault) => format!(in alloc; "{fault}").expect(rt, "memory"),
     }
 }
 
-#[test]
-fn reads_calls(rt: HostRuntime) -> Result<(), Fail> {
-    let table: [(u32, &[u8], Result<usize, (u32, u32, u32)>); 39] = [
-        (0, b"0 list /", Err((1, 1, 1))),
-        (1, b"", Ok(0)),
-        (1, b"\n", Ok(0)),
-        (1, b"#\n# 0 list\n0 list /", Ok(1)),
-        (1, b"0 mkdir /a\n0 list /\n", Ok(2)),
-        (
-            1,
-            b"0 create /a\n0 stat /a\n0 rename /a /b\n0 unlink /b\n0 rmdir /c\n0 fsync /\n",
-            Ok(6),
-        ),
-        (
-            1,
-            b"0 write /a 0 a%20b%ff\n0 read /a 1 4294967295\n0 truncate /a 2\n",
-            Ok(3),
-        ),
-        (11, b"10 list /\n0 list /\n", Ok(2)),
-        (10, b"10 list /\n", Err((1, 1, 1))),
-        (1, b"1 list /", Err((1, 1, 1))),
-        (1, b"00 list /\n", Err((1, 1, 1))),
-        (1, b"+0 list /\n", Err((1, 1, 1))),
-        (1, b" 0 list /\n", Err((1, 1, 1))),
-        (1, &[0xFF, 0xFE], Err((1, 1, 1))),
-        (1, b"0", Err((2, 1, 2))),
-        (1, b"0 ", Err((2, 1, 3))),
-        (1, b"0  list /\n", Err((2, 1, 3))),
-        (1, b"0 lists /\n", Err((2, 1, 3))),
-        (1, b"0 list", Err((3, 1, 7))),
-        (1, b"0 list\n0 list /", Err((3, 1, 7))),
-        (1, b"0 mkdir a\n", Err((3, 1, 9))),
-        (1, b"0 list /\r\n", Err((3, 1, 8))),
-        (1, b"0 list / /\n", Err((2, 1, 10))),
-        (1, b"0 list / \n", Err((2, 1, 10))),
-        (1, b"0 rename /a\n", Err((3, 1, 12))),
-        (1, b"0 rename /a b\n", Err((3, 1, 13))),
-        (1, b"0 write /a 0\n", Err((5, 1, 13))),
-        (1, b"0 write /a 0 \n", Err((5, 1, 14))),
-        (1, b"0 write /a 00 b\n", Err((4, 1, 12))),
-        (1, b"0 write /f 0 %61", Err((5, 1, 14))),
-        (1, b"0 write /a 0 %2F%0A\n", Err((5, 1, 14))),
-        (1, b"0 write /a 0 a%0A\n", Err((5, 1, 14))),
-        (1, b"0 write /a 0 a b\n", Err((2, 1, 16))),
-        (1, b"0 read /f 01 2", Err((4, 1, 11))),
-        (1, b"0 read /a 1 4294967296\n", Err((4, 1, 13))),
-        (1, b"0 truncate /a\n", Err((4, 1, 14))),
-        (1, b"#\n\n0 list /\n0 list a\n0 x", Err((3, 4, 8))),
-        (1, b"0 mkdir /a/b/c/d/e/f/g/h/i/j/k/l/m/n/o/p", Ok(1)),
-        (
-            1,
-            b"0 mkdir /a/b/c/d/e/f/g/h/i/j/k/l/m/n/o/p/q",
-            Err((3, 1, 9)),
-        ),
-    ];
-    for (cores, input, want) in table {
-        assert_eq!(rt; read(rt.alloc(), cores, input)?, want, "at {input:?}");
-        assert_eq!(rt; read_calls(rt.alloc(), cores, input)?, want, "at {input:?}");
+/// The input that a text stands for: `|` for a line feed, `^` for a carriage return, and `_` for a space.
+fn input(rt: &impl Abort, alloc: Global, text: &str) -> Vec<u8> {
+    let mut input = Vec::new(alloc);
+    for byte in text.bytes() {
+        let byte = match byte {
+            b'|' => b'\n',
+            b'^' => b'\r',
+            b'_' => b' ',
+            _ => byte,
+        };
+        input.push(byte).expect(rt, "memory");
     }
-    Ok(())
+    input
+}
+
+/// A column of a line.
+fn column<'a>(rt: &impl Abort, line: &'a str, place: usize) -> &'a str {
+    line.split(": ").nth(place).expect(rt, line)
+}
+
+/// How many cores there are, what is told of an input, and the input.
+#[test]
+fn reads_calls(rt: HostRuntime) {
+    let lines = "0: line 1 column 1 kind 1: 0 list /
+1: 0 lines: |
+1: 1 lines: #|# 0 list|0 list /
+1: 2 lines: 0 mkdir /a|0 list /|
+1: 6 lines: 0 create /a|0 stat /a|0 rename /a /b|0 unlink /b|0 rmdir /c|0 fsync /|
+1: 3 lines: 0 write /a 0 a%20b%ff|0 read /a 1 4294967295|0 truncate /a 2|
+11: 2 lines: 10 list /|0 list /|
+10: line 1 column 1 kind 1: 10 list /|
+1: line 1 column 1 kind 1: 1 list /
+1: line 1 column 1 kind 1: 00 list /|
+1: line 1 column 1 kind 1: +0 list /|
+1: line 1 column 1 kind 1: _0 list /|
+1: line 1 column 2 kind 2: 0
+1: line 1 column 3 kind 2: 0_
+1: line 1 column 3 kind 2: 0 _list /|
+1: line 1 column 3 kind 2: 0 lists /|
+1: line 1 column 7 kind 3: 0 list
+1: line 1 column 7 kind 3: 0 list|0 list /
+1: line 1 column 9 kind 3: 0 mkdir a|
+1: line 1 column 8 kind 3: 0 list /^|
+1: line 1 column 10 kind 2: 0 list / /|
+1: line 1 column 10 kind 2: 0 list /_|
+1: line 1 column 12 kind 3: 0 rename /a|
+1: line 1 column 13 kind 3: 0 rename /a b|
+1: line 1 column 13 kind 5: 0 write /a 0|
+1: line 1 column 14 kind 5: 0 write /a 0_|
+1: line 1 column 12 kind 4: 0 write /a 00 b|
+1: line 1 column 14 kind 5: 0 write /f 0 %61
+1: line 1 column 14 kind 5: 0 write /a 0 %2F%0A|
+1: line 1 column 14 kind 5: 0 write /a 0 a%0A|
+1: line 1 column 16 kind 2: 0 write /a 0 a b|
+1: line 1 column 11 kind 4: 0 read /f 01 2
+1: line 1 column 13 kind 4: 0 read /a 1 4294967296|
+1: line 1 column 14 kind 4: 0 truncate /a|
+1: line 4 column 8 kind 3: #||0 list /|0 list a|0 x
+1: 1 lines: 0 mkdir /a/b/c/d/e/f/g/h/i/j/k/l/m/n/o/p
+1: line 1 column 9 kind 3: 0 mkdir /a/b/c/d/e/f/g/h/i/j/k/l/m/n/o/p/q";
+    assert!(rt; lines.lines().count() == 37);
+    for line in lines.lines() {
+        reads_call(&rt, rt.alloc(), line);
+    }
+}
+
+/// The same is told of an input as a schedule and as a script.
+fn is_told(rt: &impl Abort, alloc: Global, cores: u32, input: &[u8], wanted: &str) {
+    let schedule = schedule_told(rt, alloc, cores, input);
+    assert_eq!(rt; schedule.as_str(), wanted, "{input:?}");
+    let script = script_told(rt, alloc, cores, input);
+    assert_eq!(rt; script.as_str(), wanted, "{input:?}");
+}
+
+fn reads_call(rt: &impl Abort, alloc: Global, line: &str) {
+    let cores = column(rt, line, 0).parse::<u32>().expect(rt, line);
+    let input = input(rt, alloc, column(rt, line, 2));
+    is_told(rt, alloc, cores, &input, column(rt, line, 1));
 }
 
 #[test]
-fn reads_acts(rt: HostRuntime) -> Result<(), Fail> {
-    let table: [(
-        &[u8],
-        Result<usize, (u32, u32, u32)>,
-        Result<usize, (u32, u32, u32)>,
-    ); 12] = [
-        (b"0 take", Ok(1), Err((2, 1, 3))),
-        (
-            b"0 look\n0 stop\n1 drop\n1 commit\n1 sync\n",
-            Ok(5),
-            Err((2, 1, 3)),
-        ),
-        (b"checkpoint", Ok(1), Err((1, 1, 1))),
-        (b"checkpoint x", Err((2, 1, 12)), Err((1, 1, 1))),
-        (b"0 checkpoint", Err((2, 1, 3)), Err((2, 1, 3))),
-        (b"1 begin mkdir /a", Ok(1), Err((2, 1, 3))),
-        (b"0 begin fsync /", Err((2, 1, 9)), Err((2, 1, 3))),
-        (b"0 begin", Err((2, 1, 8)), Err((2, 1, 3))),
-        (b"0 begin take", Err((2, 1, 9)), Err((2, 1, 3))),
-        (b"0 begin write /a 0 ", Err((5, 1, 20)), Err((2, 1, 3))),
-        (b"0 take ", Err((2, 1, 8)), Err((2, 1, 3))),
-        (b"0 list /\n0 stop x", Err((2, 2, 8)), Err((2, 2, 3))),
-    ];
-    for (input, schedule, script) in table {
-        assert_eq!(rt; read(rt.alloc(), 2, input)?, schedule, "at {input:?}");
-        assert_eq!(rt; read_calls(rt.alloc(), 2, input)?, script, "at {input:?}");
+fn reads_nothing_and_no_text(rt: HostRuntime) {
+    is_told(&rt, rt.alloc(), 1, b"", "0 lines");
+    is_told(&rt, rt.alloc(), 1, &[0xFF, 0xFE], "line 1 column 1 kind 1");
+}
+
+/// What is told of an input as a schedule and as a script of two cores, and the input.
+#[test]
+fn reads_acts(rt: HostRuntime) {
+    let lines = "1 lines: line 1 column 3 kind 2: 0 take
+5 lines: line 1 column 3 kind 2: 0 look|0 stop|1 drop|1 commit|1 sync|
+1 lines: line 1 column 1 kind 1: checkpoint
+line 1 column 12 kind 2: line 1 column 1 kind 1: checkpoint x
+line 1 column 3 kind 2: line 1 column 3 kind 2: 0 checkpoint
+1 lines: line 1 column 3 kind 2: 1 begin mkdir /a
+line 1 column 9 kind 2: line 1 column 3 kind 2: 0 begin fsync /
+line 1 column 8 kind 2: line 1 column 3 kind 2: 0 begin
+line 1 column 9 kind 2: line 1 column 3 kind 2: 0 begin take
+line 1 column 20 kind 5: line 1 column 3 kind 2: 0 begin write /a 0_
+line 1 column 8 kind 2: line 1 column 3 kind 2: 0 take_
+line 2 column 8 kind 2: line 2 column 3 kind 2: 0 list /|0 stop x";
+    assert!(rt; lines.lines().count() == 12);
+    for line in lines.lines() {
+        reads_act(&rt, rt.alloc(), line);
     }
-    Ok(())
+}
+
+fn reads_act(rt: &impl Abort, alloc: Global, line: &str) {
+    let input = input(rt, alloc, column(rt, line, 2));
+    let schedule = schedule_told(rt, alloc, 2, &input);
+    assert_eq!(rt; schedule.as_str(), column(rt, line, 0), "{line}");
+    let script = script_told(rt, alloc, 2, &input);
+    assert_eq!(rt; script.as_str(), column(rt, line, 1), "{line}");
 }
 
 /// So many copies of a text.
-fn repeated(alloc: Global, text: &[u8], count: u32) -> Result<Vec<u8>, AllocError> {
+fn repeated(rt: &impl Abort, alloc: Global, text: &[u8], count: u32) -> Vec<u8> {
     let mut out = Vec::new(alloc);
     for _ in 0..count {
-        out.extend_from_slice(text)?;
+        out.extend_from_slice(text).expect(rt, "memory");
     }
-    Ok(out)
+    out
+}
+
+/// This is told of a schedule of one core.
+fn schedule_is(rt: &impl Abort, alloc: Global, input: &[u8], wanted: &str) {
+    let told = schedule_told(rt, alloc, 1, input);
+    assert_eq!(rt; told.as_str(), wanted);
 }
 
 #[test]
-fn keeps_limits(rt: HostRuntime) -> Result<(), Fail> {
-    let alloc = rt.alloc();
-    let mut line = repeated(alloc, b"#", 20_000)?;
-    assert_eq!(rt; read(alloc, 1, &line)?, Ok(0));
-    line.push(b'a')?;
-    assert_eq!(rt; read(alloc, 1, &line)?, Err((6, 1, 20_001)));
-    let words = repeated(alloc, b"a", 20_001)?;
-    assert_eq!(rt; read(alloc, 1, &words)?, Err((6, 1, 20_001)));
-    let mut lines = repeated(alloc, b"\n", 65_536)?;
-    assert_eq!(rt; read(alloc, 1, &lines)?, Ok(0));
-    lines.push(b'\n')?;
-    assert_eq!(rt; read(alloc, 1, &lines)?, Err((6, 65_537, 1)));
-    Ok(())
+fn keeps_limits(rt: HostRuntime) {
+    let mut line = repeated(&rt, rt.alloc(), b"#", 20_000);
+    schedule_is(&rt, rt.alloc(), &line, "0 lines");
+    line.push(b'a').expect(&rt, "memory");
+    schedule_is(&rt, rt.alloc(), &line, "line 1 column 20001 kind 6");
+    let words = repeated(&rt, rt.alloc(), b"a", 20_001);
+    schedule_is(&rt, rt.alloc(), &words, "line 1 column 20001 kind 6");
+    let mut lines = repeated(&rt, rt.alloc(), b"\n", 65_536);
+    schedule_is(&rt, rt.alloc(), &lines, "0 lines");
+    lines.push(b'\n').expect(&rt, "memory");
+    schedule_is(&rt, rt.alloc(), &lines, "line 65537 column 1 kind 6");
 }
 
 /// As many bytes as an input may have, in lines without an act.
-fn longest(alloc: Global) -> Result<Vec<u8>, AllocError> {
-    let mut line = repeated(alloc, b"#", 1_023)?;
-    line.push(b'\n')?;
-    repeated(alloc, &line, 16_384)
+fn longest(rt: &impl Abort, alloc: Global) -> Vec<u8> {
+    let mut line = repeated(rt, alloc, b"#", 1_023);
+    line.push(b'\n').expect(rt, "memory");
+    repeated(rt, alloc, &line, 16_384)
 }
 
 #[test]
-fn keeps_limit_of_bytes(rt: HostRuntime) -> Result<(), Fail> {
-    let alloc = rt.alloc();
-    let mut input = longest(alloc)?;
-    assert_eq!(rt; read(alloc, 1, &input)?, Ok(0));
-    input.push(b'\n')?;
-    assert_eq!(rt; read(alloc, 1, &input)?, Err((6, 16_385, 1)));
-    Ok(())
+fn keeps_limit_of_bytes(rt: HostRuntime) {
+    let mut input = longest(&rt, rt.alloc());
+    schedule_is(&rt, rt.alloc(), &input, "0 lines");
+    input.push(b'\n').expect(&rt, "memory");
+    schedule_is(&rt, rt.alloc(), &input, "line 16385 column 1 kind 6");
 }
 
 #[test]
-fn reads_no_words_past_limit(rt: HostRuntime) -> Result<(), Fail> {
-    let alloc = rt.alloc();
-    let mut input = longest(alloc)?;
+fn reads_no_words_past_limit(rt: HostRuntime) {
+    let mut input = longest(&rt, rt.alloc());
     input.truncate(16_777_208);
-    input.extend_from_slice(b"\n0 list x")?;
-    assert_eq!(rt; read(alloc, 1, &input)?, Err((6, 16_385, 8)));
+    input.extend_from_slice(b"\n0 list x").expect(&rt, "memory");
+    schedule_is(&rt, rt.alloc(), &input, "line 16385 column 8 kind 6");
     input.truncate(16_777_216);
-    assert_eq!(rt; read(alloc, 1, &input)?, Err((3, 16_385, 8)));
-    Ok(())
+    schedule_is(&rt, rt.alloc(), &input, "line 16385 column 8 kind 3");
 }
 
-/// All lines that a schedule for ten cores spells, written again.
-fn written(alloc: Global, input: &[u8]) -> Result<Vec<u8>, AllocError> {
+/// All lines that a schedule for ten cores spells are written again as they are. Tells how many there are.
+fn rewritten(rt: &impl Abort, alloc: Global, text: &str) -> usize {
+    let schedule = read_schedule(alloc, 10, text.as_bytes()).expect(rt, text);
     let mut out = Bytes::new(alloc);
-    if let Ok(schedule) = read_schedule(alloc, 10, input) {
-        for line in schedule.as_slice() {
-            write_line(line, &mut out)?;
-        }
+    for line in schedule.as_slice() {
+        write_line(line, &mut out).expect(rt, "memory");
     }
-    Vec::from_slice(alloc, out.as_slice())
+    assert_eq!(rt; out.as_slice(), text.as_bytes(), "{text}");
+    schedule.len()
 }
 
 #[test]
-fn writes_lines(rt: HostRuntime) -> Result<(), Fail> {
-    let table: [&[u8]; 3] = [
-        b"0 mkdir /a\n1 create /a/b\n2 write /a/b 0 a%20b%25%ff\n3 read /a/b 4294967295 10\n4 truncate /a/b 7\n",
-        b"5 unlink /a/b\n6 rmdir /a\n7 rename /a /b\n8 list /\n9 stat /.a-_Z9\n0 fsync /\n",
-        b"0 begin rename /a /b\n0 take\n0 look\n0 stop\n0 drop\n0 commit\n0 sync\ncheckpoint\n",
-    ];
-    for input in table {
-        assert_eq!(rt; written(rt.alloc(), input)?.as_slice(), input);
-    }
-    Ok(())
+fn writes_lines(rt: HostRuntime) {
+    let lines = "0 mkdir /a
+1 create /a/b
+2 write /a/b 0 a%20b%25%ff
+3 read /a/b 4294967295 10
+4 truncate /a/b 7
+5 unlink /a/b
+6 rmdir /a
+7 rename /a /b
+8 list /
+9 stat /.a-_Z9
+0 fsync /
+0 begin rename /a /b
+0 take
+0 look
+0 stop
+0 drop
+0 commit
+0 sync
+checkpoint
+";
+    assert!(rt; rewritten(&rt, rt.alloc(), lines) == 19);
+}
+
+/// The number of a line, and its core.
+fn place_of(line: Option<&Line>) -> Option<(u32, Option<u32>)> {
+    line.map(|line| (line.number, line.core))
 }
 
 #[test]
-fn numbers_lines(rt: HostRuntime) -> Result<(), Fail> {
-    let script = read_script(rt.alloc(), 2, b"#\n\n1 list /\n#\n0 fsync /")?;
-    let table = [(0, Some((3, Some(1)))), (1, Some((5, Some(0)))), (2, None)];
-    for (i, want) in table {
-        assert_eq!(rt; script.at(i).map(|line| (line.number, line.core)), want);
-    }
-    let schedule = read_schedule(rt.alloc(), 2, b"\ncheckpoint\n1 take")?;
-    let table = [(0, Some((2, None))), (1, Some((3, Some(1)))), (2, None)];
-    for (i, want) in table {
-        assert_eq!(rt; schedule.at(i).map(|line| (line.number, line.core)), want);
-    }
-    Ok(())
+fn numbers_lines(rt: HostRuntime) {
+    let text = b"#\n\n1 list /\n#\n0 fsync /";
+    let script = read_script(rt.alloc(), 2, text).expect(&rt, "a script");
+    assert!(rt; place_of(script.at(0)) == Some((3, Some(1))));
+    assert!(rt; place_of(script.at(1)) == Some((5, Some(0))));
+    assert!(rt; place_of(script.at(2)) == None);
+    let text = b"\ncheckpoint\n1 take";
+    let schedule = read_schedule(rt.alloc(), 2, text).expect(&rt, "a schedule");
+    assert!(rt; place_of(schedule.at(0)) == Some((2, None)));
+    assert!(rt; place_of(schedule.at(1)) == Some((3, Some(1))));
+    assert!(rt; place_of(schedule.at(2)) == None);
+}
+
+/// A kind has this number, and what is due there has this word in it.
+fn kind_is(rt: &impl Abort, kind: Kind, number: u32, word: &str) {
+    assert!(rt; kind.number() == number);
+    assert!(rt; Kind::from_number(number) == Some(kind));
+    assert!(rt; kind.due().contains(word), "{word}");
 }
 
 #[test]
-fn tells_kinds(rt: HostRuntime) -> Result<(), Fail> {
-    let table = [
-        (Kind::BadCore, 1, "core"),
-        (Kind::BadCall, 2, "call"),
-        (Kind::BadPath, 3, "path"),
-        (Kind::BadNumber, 4, "number"),
-        (Kind::BadText, 5, "bytes"),
-        (Kind::TooLong, 6, "end"),
-    ];
-    for (kind, number, word) in table {
-        assert_eq!(rt; kind.number(), number);
-        assert_eq!(rt; Kind::from_number(number), Some(kind));
-        assert!(rt; kind.due().contains(word));
-    }
-    assert_eq!(rt; Kind::from_number(0), None);
-    assert_eq!(rt; Kind::from_number(7), None);
-    Ok(())
+fn tells_kinds(rt: HostRuntime) {
+    kind_is(&rt, Kind::BadCore, 1, "core");
+    kind_is(&rt, Kind::BadCall, 2, "call");
+    kind_is(&rt, Kind::BadPath, 3, "path");
+    kind_is(&rt, Kind::BadNumber, 4, "number");
+    kind_is(&rt, Kind::BadText, 5, "bytes");
+    kind_is(&rt, Kind::TooLong, 6, "end");
+    assert!(rt; Kind::from_number(0) == None);
+    assert!(rt; Kind::from_number(7) == None);
 }
 
-/// The line of an answer.
-fn spelled(alloc: Global, core: Option<u32>, form: Form) -> Result<Bytes, AllocError> {
+/// An answer of a core is spelled so, behind the number of its line.
+fn is_spelled(rt: &impl Abort, alloc: Global, core: Option<u32>, form: Form, wanted: &str) {
     let answer = Answer {
         line: 4_294_967_295,
         core,
         form,
     };
     let mut out = Bytes::new(alloc);
-    write_answer(&answer, &mut out)?;
-    Ok(out)
+    write_answer(&answer, &mut out).expect(rt, "memory");
+    let line = format!(in alloc; "4294967295 {wanted}\n").expect(rt, "memory");
+    assert_eq!(rt; out.as_slice(), line.as_bytes(), "{wanted}");
 }
 
-fn data(alloc: Global, bytes: &[u8]) -> Result<Reply, AllocError> {
-    Ok(Reply::Data(Bytes::from_slice(alloc, bytes)?))
+/// A reply is spelled so, behind the core and the ticket.
+fn reply_is(rt: &impl Abort, alloc: Global, reply: Reply, wanted: &str) {
+    let ticket = 18_446_744_073_709_551_615;
+    let wanted = format!(in alloc; "10 18446744073709551615 {wanted}").expect(rt, "memory");
+    is_spelled(
+        rt,
+        alloc,
+        Some(10),
+        Form::Drew { ticket, reply },
+        wanted.as_str(),
+    );
 }
 
-fn listed(alloc: Global, texts: &[&str]) -> Result<Reply, AllocError> {
+fn data_is(rt: &impl Abort, alloc: Global, bytes: &[u8], wanted: &str) {
+    let bytes = Bytes::from_slice(alloc, bytes).expect(rt, "memory");
+    reply_is(rt, alloc, Reply::Data(bytes), wanted);
+}
+
+/// The names of a list are spelled as they are here.
+fn names_are(rt: &impl Abort, alloc: Global, wanted: &str) {
     let mut names = Names::new(alloc);
-    for text in texts {
-        if let Some(name) = Name::new(text.as_bytes()) {
-            names.push(name)?;
-        }
+    for word in wanted.split(' ').skip(1) {
+        let name = Name::new(word.as_bytes()).expect(rt, word);
+        names.push(name).expect(rt, "memory");
     }
-    Ok(Reply::Listed(names))
+    reply_is(rt, alloc, Reply::Listed(names), wanted);
 }
 
 #[test]
-fn spells_replies(rt: HostRuntime) -> Result<(), Fail> {
-    let alloc = rt.alloc();
-    let table = [
-        (Reply::Done, "ok"),
-        (data(alloc, b"")?, "data"),
-        (data(alloc, &[b'a', 37, 10, 255])?, "data a%25%0a%ff"),
-        (data(alloc, b" !~\x7f\x00")?, "data %20!~%7f%00"),
-        (listed(alloc, &[])?, "names"),
-        (listed(alloc, &["B", "a.b", "a_c"])?, "names B a.b a_c"),
-        (Reply::Dir { entries: 3 }, "dir 3"),
-        (Reply::File { size: 700 }, "file 700"),
-    ];
-    for (reply, want) in table {
-        let form = Form::Drew {
-            ticket: 18_446_744_073_709_551_615,
-            reply,
-        };
-        let line = format!(in alloc; "4294967295 10 18446744073709551615 {want}\n")?;
-        assert_eq!(rt; spelled(alloc, Some(10), form)?.as_slice(), line.as_bytes());
-    }
-    Ok(())
+fn spells_replies(rt: HostRuntime) {
+    reply_is(&rt, rt.alloc(), Reply::Done, "ok");
+    reply_is(&rt, rt.alloc(), Reply::Dir { entries: 3 }, "dir 3");
+    reply_is(&rt, rt.alloc(), Reply::File { size: 700 }, "file 700");
+    data_is(&rt, rt.alloc(), b"", "data");
+    data_is(&rt, rt.alloc(), &[b'a', 37, 10, 255], "data a%25%0a%ff");
+    data_is(&rt, rt.alloc(), b" !~\x7f\x00", "data %20!~%7f%00");
+    names_are(&rt, rt.alloc(), "names");
+    names_are(&rt, rt.alloc(), "names B a.b a_c");
+}
+
+/// A refusal is spelled so, behind the core and the ticket.
+fn refusal_is(rt: &impl Abort, alloc: Global, refusal: Refusal, wanted: &str) {
+    let (ticket, reply) = (0, Reply::Refused(refusal));
+    is_spelled(rt, alloc, Some(10), Form::Drew { ticket, reply }, wanted);
 }
 
 #[test]
-fn spells_refusals(rt: HostRuntime) -> Result<(), Fail> {
+fn spells_refusals(rt: HostRuntime) {
     let alloc = rt.alloc();
-    let table = [
-        (Refusal::NotFound, "notfound"),
-        (Refusal::NotDir, "notdir"),
-        (Refusal::IsDir, "isdir"),
-        (Refusal::Exists, "exists"),
-        (Refusal::NotEmpty, "notempty"),
-        (Refusal::Inside, "inside"),
-        (Refusal::TooBig, "toobig"),
-        (Refusal::NoNodes, "nonodes"),
-        (Refusal::NoSpace, "nospace"),
-        (Refusal::DirFull, "dirfull"),
-        (Refusal::PastEnd, "pastend"),
-    ];
-    for (refusal, want) in table {
-        let form = Form::Drew {
-            ticket: 0,
-            reply: Reply::Refused(refusal),
-        };
-        let line = format!(in alloc; "4294967295 10 0 {want}\n")?;
-        assert_eq!(rt; spelled(alloc, Some(10), form)?.as_slice(), line.as_bytes());
-    }
-    Ok(())
+    refusal_is(&rt, alloc, Refusal::NotFound, "10 0 notfound");
+    refusal_is(&rt, alloc, Refusal::NotDir, "10 0 notdir");
+    refusal_is(&rt, alloc, Refusal::IsDir, "10 0 isdir");
+    refusal_is(&rt, alloc, Refusal::Exists, "10 0 exists");
+    refusal_is(&rt, alloc, Refusal::NotEmpty, "10 0 notempty");
+    refusal_is(&rt, alloc, Refusal::Inside, "10 0 inside");
+    refusal_is(&rt, alloc, Refusal::TooBig, "10 0 toobig");
+    refusal_is(&rt, alloc, Refusal::NoNodes, "10 0 nonodes");
+    refusal_is(&rt, alloc, Refusal::NoSpace, "10 0 nospace");
+    refusal_is(&rt, alloc, Refusal::DirFull, "10 0 dirfull");
+    refusal_is(&rt, alloc, Refusal::PastEnd, "10 0 pastend");
 }
 
 /// A receipt of so many cores, with bounds 3, 4 and 5.
@@ -324,89 +355,75 @@ fn receipt(cores: u32) -> SyncForm {
     SyncForm::Receipt { cores, covers }
 }
 
-#[test]
-fn spells_receipts(rt: HostRuntime) -> Result<(), Fail> {
-    let alloc = rt.alloc();
-    let table = [
-        (Form::Sync(receipt(1)), "receipt 3"),
-        (Form::Sync(receipt(4)), "receipt 3 4 5 0"),
-        (
-            Form::Synced {
-                ticket: 7,
-                sync: receipt(2),
-            },
-            "7 ok receipt 3 4",
-        ),
-        (
-            Form::Sync(SyncForm::Wait {
-                core: 2,
-                need: 9,
-                stable: 8,
-            }),
-            "wait 2 9 8",
-        ),
-        (Form::Sync(SyncForm::Failed { core: 3 }), "failed 3"),
-        (
-            Form::Sync(SyncForm::Fault {
-                device: Device::Journal(11),
-            }),
-            "fault j11",
-        ),
-    ];
-    for (form, want) in table {
-        let line = format!(in alloc; "4294967295 0 {want}\n")?;
-        assert_eq!(rt; spelled(alloc, Some(0), form)?.as_slice(), line.as_bytes());
-    }
-    Ok(())
+/// What came of waiting for a receipt is spelled so, behind its core.
+fn sync_is(rt: &impl Abort, alloc: Global, sync: SyncForm, wanted: &str) {
+    is_spelled(rt, alloc, Some(0), Form::Sync(sync), wanted);
 }
 
 #[test]
-fn spells_forms(rt: HostRuntime) -> Result<(), Fail> {
+fn spells_receipts(rt: HostRuntime) {
     let alloc = rt.alloc();
-    let table = [
-        (Form::Begun, "begun"),
-        (Form::Took { block: 5 }, "took 5"),
-        (Form::Saw { block: 6 }, "saw 6"),
-        (Form::Ready, "ready"),
-        (Form::Dropped, "dropped"),
-        (Form::Committed { number: 12 }, "committed 12"),
-        (Form::Empty, "empty"),
-        (Form::Open, "open"),
-        (Form::Checkpointed, "checkpointed"),
-        (
-            Form::Damaged {
-                device: Device::Home,
-            },
-            "damaged home",
-        ),
-        (
-            Form::Busy {
-                block: 2,
-                holder: 1,
-            },
-            "busy 2 1",
-        ),
-        (Form::TxFull { have: 47, more: 2 }, "txfull 47 2"),
-        (
-            Form::Full {
-                need: 25_377,
-                free: 9,
-            },
-            "full 25377 9",
-        ),
-        (
-            Form::Again {
-                block: 3,
-                noted: 1,
-                found: 2,
-            },
-            "again 3 1 2",
-        ),
-        (Form::Order, "order"),
-    ];
-    for (form, want) in table {
-        let line = format!(in alloc; "4294967295 - {want}\n")?;
-        assert_eq!(rt; spelled(alloc, None, form)?.as_slice(), line.as_bytes());
-    }
-    Ok(())
+    sync_is(&rt, alloc, receipt(1), "0 receipt 3");
+    sync_is(&rt, alloc, receipt(4), "0 receipt 3 4 5 0");
+    let (ticket, sync) = (7, receipt(2));
+    let synced = Form::Synced { ticket, sync };
+    is_spelled(&rt, alloc, Some(0), synced, "0 7 ok receipt 3 4");
+    let (core, need, stable) = (2, 9, 8);
+    sync_is(
+        &rt,
+        alloc,
+        SyncForm::Wait { core, need, stable },
+        "0 wait 2 9 8",
+    );
+    sync_is(&rt, alloc, SyncForm::Failed { core: 3 }, "0 failed 3");
+    let device = Device::Journal(11);
+    sync_is(&rt, alloc, SyncForm::Fault { device }, "0 fault j11");
+}
+
+/// An answer of no core is spelled so.
+fn form_is(rt: &impl Abort, alloc: Global, form: Form, wanted: &str) {
+    is_spelled(rt, alloc, None, form, wanted);
+}
+
+#[test]
+fn spells_forms(rt: HostRuntime) {
+    let alloc = rt.alloc();
+    form_is(&rt, alloc, Form::Begun, "- begun");
+    form_is(&rt, alloc, Form::Took { block: 5 }, "- took 5");
+    form_is(&rt, alloc, Form::Saw { block: 6 }, "- saw 6");
+    form_is(&rt, alloc, Form::Ready, "- ready");
+    form_is(&rt, alloc, Form::Dropped, "- dropped");
+    form_is(&rt, alloc, Form::Committed { number: 12 }, "- committed 12");
+    form_is(&rt, alloc, Form::Empty, "- empty");
+    form_is(&rt, alloc, Form::Open, "- open");
+    form_is(&rt, alloc, Form::Checkpointed, "- checkpointed");
+    let device = Device::Home;
+    form_is(&rt, alloc, Form::Damaged { device }, "- damaged home");
+    form_is(&rt, alloc, Form::Order, "- order");
+}
+
+#[test]
+fn spells_forms_with_numbers(rt: HostRuntime) {
+    let alloc = rt.alloc();
+    let (block, holder) = (2, 1);
+    form_is(&rt, alloc, Form::Busy { block, holder }, "- busy 2 1");
+    form_is(
+        &rt,
+        alloc,
+        Form::TxFull { have: 47, more: 2 },
+        "- txfull 47 2",
+    );
+    let (need, free) = (25_377, 9);
+    form_is(&rt, alloc, Form::Full { need, free }, "- full 25377 9");
+    let (block, noted, found) = (3, 1, 2);
+    form_is(
+        &rt,
+        alloc,
+        Form::Again {
+            block,
+            noted,
+            found,
+        },
+        "- again 3 1 2",
+    );
 }

@@ -2,88 +2,77 @@
 
 use super::*;
 
-#[test]
-fn a_scan_finds_a_whole_record(rt: HostRuntime) -> Result<(), Fail> {
-    let none = Ok((0, START));
-    let end = Tail {
-        place: 32,
-        number: 1,
-    };
-    let damaged = ScanFault::Damaged {
-        at: 8,
-        found: 5,
-        expected: 0,
-    };
-    for (at, value, stop, answer) in [
-        (0, 0, None, none),
-        (0, 1, None, Ok((1, end))),
-        (0, 7, None, none),
-        (8, 5, None, Err(damaged)),
-        (0, 1, Some(0), Err(ScanFault::DiskFault)),
-        (0, 1, Some(1), Err(ScanFault::DiskFault)),
-    ] {
-        let mut bytes = vec![in rt.alloc(); 0u8; 50_752]?;
-        put(&rt, &mut bytes, 0, &EMPTY);
-        put(&rt, &mut bytes, at, &[value]);
-        let found = scanned(&rt, rt.alloc(), &bytes, START, stop)?;
-        assert_eq!(rt; found, answer, "{value} at {at}, stop {stop:?}");
+/// What a scan tells of a record of no block: the place of a byte, its value, and from which call on the disk fails.
+fn scan_told(rt: &impl Abort, alloc: Global, line: &str) -> String {
+    let mut bytes = chain(rt, alloc, START, 1);
+    let value = u8::try_from(number(rt, line, 2)).expect(rt, line);
+    put(rt, &mut bytes, number(rt, line, 1) as usize, &[value]);
+    let stop = word(rt, line, 3).parse::<u64>().ok();
+    scanned(rt, alloc, &bytes, START, stop)
+}
+
+/// What a scan tells of a ring: the tail's place and number, and how many records there are from there on.
+fn ring_told(rt: &impl Abort, alloc: Global, line: &str) -> String {
+    let (place, number) = (self::number(rt, line, 1), self::number(rt, line, 2));
+    let tail = Tail { place, number };
+    let bytes = chain(rt, alloc, tail, self::number(rt, line, 3));
+    scanned(rt, alloc, &bytes, tail, None)
+}
+
+/// How many bytes a longest record needs and has, where it has no room: the length of a journal, the tail's place, and how many
+/// blocks the record there has, if there is one.
+fn room_told(rt: &impl Abort, alloc: Global, line: &str) -> String {
+    let place = number(rt, line, 2);
+    let mut bytes = filled(rt, alloc, 0, number(rt, line, 1) as usize);
+    if let Ok(blocks) = word(rt, line, 3).parse::<u32>() {
+        let record = record_bytes(rt, alloc, 1, blocks);
+        put(rt, &mut bytes, place as usize, &record);
     }
-    Ok(())
+    let tail = Tail { place, number: 1 };
+    let mut area = area_on(rt, alloc, disk(rt, alloc, &bytes, None), tail);
+    assert!(rt; area.scan().is_ok());
+    assert!(rt; area.ready());
+    match area.fits_one() {
+        Ok(()) => String::from_str(alloc, "room").expect(rt, "memory"),
+        Err(Full { need, free }) => format!(in alloc; "{need} {free}").expect(rt, "memory"),
+    }
+}
+
+/// What stands behind the colon of a line comes of what stands in front.
+fn comes(rt: &impl Abort, alloc: Global, line: &str) {
+    let (front, due) = line.split_once(": ").expect(rt, line);
+    let told = match word(rt, front, 0) {
+        "scan" => scan_told(rt, alloc, front),
+        "ring" => ring_told(rt, alloc, front),
+        _ => room_told(rt, alloc, front),
+    };
+    assert_eq!(rt; told.as_str(), due, "{line}");
 }
 
 #[test]
-fn a_scan_goes_round_the_ring_once(rt: HostRuntime) -> Result<(), Fail> {
-    let ends = ScanFault::Damaged {
-        at: 8,
-        found: 0,
-        expected: 794,
-    };
-    for (tail, count, answer) in [
-        ((0, 0), 0, Ok((0, (0, 0)))),
-        ((0, 0), 5, Ok((5, (160, 5)))),
-        ((32, 1), 792, Ok((792, (25_376, 793)))),
-        ((32, 1), 793, Ok((793, (0, 794)))),
-        ((25_376, 7), 1, Ok((1, (0, 8)))),
-        ((0, 0), 794, Err(ends)),
-    ] {
-        let tail = Tail {
-            place: tail.0,
-            number: tail.1,
-        };
-        let bytes = chain(&rt, rt.alloc(), tail, count)?;
-        let found = scanned(&rt, rt.alloc(), &bytes, tail, None)?.map(|(count, end)| (
-            count,
-            (end.place, end.number),
-        ));
-        assert_eq!(rt; found, answer, "{count} records from {tail:?} on");
+fn journals_are_scanned(rt: HostRuntime) {
+    let lines = "scan 0 0 -: 0 to 0 0
+scan 0 1 -: 1 to 32 1
+scan 0 7 -: 0 to 0 0
+scan 8 5 -: damaged at 8 found 5 expected 0
+scan 0 1 0: disk
+scan 0 1 1: disk
+ring 0 0 0: 0 to 0 0
+ring 0 0 5: 5 to 160 5
+ring 32 1 792: 792 to 25376 793
+ring 32 1 793: 793 to 0 794
+ring 25376 7 1: 1 to 0 8
+ring 0 0 794: damaged at 8 found 0 expected 794
+room 50752 0 -: room
+room 50752 0 3: 50752 49136
+room 50783 0 0: 50752 50751
+room 50784 0 0: room
+room 50752 1616 3: room
+room 50752 1616 48: 25377 1616
+room 76127 25376 48: 25377 25376
+room 76128 25377 48: room";
+    assert_eq!(rt; lines.lines().count(), 20);
+    for line in lines.lines() {
+        comes(&rt, rt.alloc(), line);
     }
-    Ok(())
-}
-
-#[test]
-fn a_longest_record_has_room_or_not(rt: HostRuntime) -> Result<(), Fail> {
-    for (len, place, record, answer) in [
-        (50_752, 0, None, Ok(())),
-        (50_752, 0, Some(3), Err((50_752, 49_136))),
-        (50_783, 0, Some(0), Err((50_752, 50_751))),
-        (50_784, 0, Some(0), Ok(())),
-        (50_752, 1_616, Some(3), Ok(())),
-        (50_752, 1_616, Some(48), Err((25_377, 1_616))),
-        (76_127, 25_376, Some(48), Err((25_377, 25_376))),
-        (76_128, 25_377, Some(48), Ok(())),
-    ] {
-        let tail = Tail { place, number: 1 };
-        let mut bytes = vec![in rt.alloc(); 0u8; len]?;
-        if let Some(blocks) = record {
-            let record = record_bytes(rt.alloc(), 1, blocks)?;
-            put(&rt, &mut bytes, place as usize, &record);
-        }
-        let disk = MemDisk::new(rt.alloc(), &bytes, &[], None)?;
-        let mut area = area_on(&rt, rt.alloc(), disk, tail)?;
-        area.scan()?;
-        assert!(rt; area.ready());
-        let answer = answer.map_err(|(need, free)| Full { need, free });
-        assert_eq!(rt; area.fits_one(), answer, "{record:?} at {place} of {len}");
-    }
-    Ok(())
 }
