@@ -129,23 +129,18 @@ def client(calls):
 CHANGES = ("mkdir", "create", "unlink", "rmdir", "rename", "write", "truncate")
 
 
-def changes(lines):
-    """How many of the calls change the tree."""
-    return sum(line.split(" ", 1)[0] in CHANGES for line in lines)
+def is_change(line):
+    """Whether a call may change the tree."""
+    return line.split(" ", 1)[0] in CHANGES
 
 
-def commit_each(lines, count):
-    """The calls with a commit behind each so many changes."""
-    told, changed = [], 0
-    for line in lines:
-        told.append(line)
-        if line.split(" ", 1)[0] in CHANGES:
-            changed += 1
-            if changed % count == 0:
-                told.append("commit")
-    return told
-
-
-def script(lines, cores=1):
-    """The text of a script, whose calls are dealt out to the cores."""
-    return "".join(f"{k % cores} {line}\n" for k, line in enumerate(lines)).encode()
+def script(lines, cores=1, commit=None):
+    """The text of a script, whose calls are dealt out to the cores. Each core commits behind so many of its changes, where a number is given."""
+    told, changes = [], [0] * cores
+    for k, line in enumerate(lines):
+        core = k % cores
+        told.append(f"{core} {line}\n")
+        changes[core] += is_change(line)
+        if commit and is_change(line) and changes[core] % commit == 0:
+            told.append(f"{core} commit\n")
+    return "".join(told).encode()

@@ -13,7 +13,7 @@ import sys
 import tempfile
 import time
 
-from scripts import changes, client, commit_each, object_files, script
+from scripts import client, is_change, object_files, script
 
 RUNS = 7
 BUILD_CALLS = 31_200
@@ -58,7 +58,7 @@ def least(run, *given):
 
 def build(zj, plain, place):
     lines = object_files(BUILD_CALLS)
-    text = script(commit_each(lines, BUILD_CHANGES))
+    text = script(lines, commit=BUILD_CHANGES)
     ours, answers = least(on_new_image, zj, place, text)
     theirs, same = least(on_new_directory, plain, place, text)
     assert answers == same, next(pair for pair in zip(answers.splitlines(), same.splitlines()) if pair[0] != pair[1])
@@ -70,11 +70,11 @@ def commits(zj, plain, place):
     lines = client(CLIENT_CALLS)
     without, answers = least(on_new_image, zj, place, script(lines))
     assert answers == least(on_new_directory, plain, place, script(lines))[1]
-    text = script(commit_each(lines, CLIENT_CHANGES))
+    text = script(lines, commit=CLIENT_CHANGES)
     with_commits, answers = least(on_new_image, zj, place, text)
     assert answers == least(on_new_directory, plain, place, text)[1]
     count = answers.count(b" committed ")
-    print(f"a client of {len(lines):,} calls, {changes(lines):,} of them changes: {without * 1000:.1f} ms; with {count:,} commits "
+    print(f"a client of {len(lines):,} calls, {sum(map(is_change, lines)):,} of them changes: {without * 1000:.1f} ms; with {count:,} commits "
           f"{with_commits * 1000:.1f} ms: {with_commits / without:.2f} times")
 
 
