@@ -5,17 +5,17 @@ them, all in a file system in memory.
     bench/tree.py PROGRAM [FOLDER]
 
 PROGRAM is the built zj. FOLDER lies in a file system in memory, /dev/shm where it is left out. `cc` builds the C program, `bench/directory.c`. A
-time is that of a whole program, from its start to its end, the least of some runs; the answers of both are compared.
+time is that of the processor in the whole program, in itself and in the system, from its start to its end, the least of some rounds; so other work
+on the machine counts for little. Each run has an image or a directory of its own. The answers of zj and of C are compared.
 """
 import os
 import subprocess
 import sys
 import tempfile
-import time
 
 from scripts import client, is_change, object_files, script
 
-RUNS = 7
+ROUNDS = 9
 BUILD_CALLS = 31_200
 CLIENT_CALLS = 18_660
 # A commit comes behind so many changes: as many as surely fit a record, and few.
@@ -26,56 +26,49 @@ HERE = os.path.dirname(os.path.abspath(__file__))
 
 
 def timed(words, folder, text):
-    """The seconds that a program takes on a script in a folder, and what it answers."""
-    begin = time.monotonic()
-    done = subprocess.run(words, cwd=folder, input=text, stdout=subprocess.PIPE, check=True)
-    return time.monotonic() - begin, done.stdout
+    """The seconds of the processor that a program takes on a script in a folder, and what it answers."""
+    with open(os.path.join(folder, "script"), "wb+") as lines, open(os.path.join(folder, "answers"), "wb+") as answers:
+        lines.write(text)
+        lines.seek(0)
+        os.mkdir(os.path.join(folder, "image"))
+        for word in words[:-1]:
+            subprocess.run(word, cwd=os.path.join(folder, "image"), check=True)
+        process = subprocess.Popen(words[-1], cwd=os.path.join(folder, "image"), stdin=lines, stdout=answers)
+        _, status, used = os.wait4(process.pid, 0)
+        process.returncode = status
+        assert status == 0
+        answers.seek(0)
+        return used.ru_utime + used.ru_stime, answers.read()
 
 
-def make(zj, folder):
-    subprocess.run([zj, "make", "4096", "1024", "1", str(AREA)], cwd=folder, check=True)
+def least(place, *runs):
+    """Of each run the least time, and the answers, which are the same in all rounds. The runs take turns."""
+    told = [[] for _ in runs]
+    for _ in range(ROUNDS):
+        for times, (words, text) in zip(told, runs):
+            with tempfile.TemporaryDirectory(dir=place) as folder:
+                times.append(timed(words, folder, text))
+    assert all(answers == times[0][1] for times in told for _, answers in times)
+    return [(min(seconds for seconds, _ in times), times[0][1]) for times in told]
 
 
-def on_new_image(zj, place, text):
-    """One run on an image of its own."""
-    with tempfile.TemporaryDirectory(dir=place) as folder:
-        make(zj, folder)
-        return timed([zj, "play"], folder, text)
-
-
-def on_new_directory(plain, place, text):
-    """One run in a directory of its own."""
-    with tempfile.TemporaryDirectory(dir=place) as folder:
-        return timed([plain], folder, text)
-
-
-def least(run, *given):
-    """The least time of some runs, whose answers are the same."""
-    told = [run(*given) for _ in range(RUNS)]
-    assert all(answers == told[0][1] for _, answers in told)
-    return min(seconds for seconds, _ in told), told[0][1]
-
-
-def build(zj, plain, place):
+def build(ours, theirs, place):
     lines = object_files(BUILD_CALLS)
     text = script(lines, commit=BUILD_CHANGES)
-    ours, answers = least(on_new_image, zj, place, text)
-    theirs, same = least(on_new_directory, plain, place, text)
+    (our_time, answers), (their_time, same) = least(place, (ours, text), (theirs, text))
     assert answers == same, next(pair for pair in zip(answers.splitlines(), same.splitlines()) if pair[0] != pair[1])
-    count = answers.count(b" committed ")
-    print(f"a build of {len(lines):,} calls and {count:,} commits: {ours * 1000:.1f} ms, by C on a directory {theirs * 1000:.1f} ms: {ours / theirs:.2f} times")
+    print(f"a build of {len(lines):,} calls and {answers.count(b' committed '):,} commits: {our_time * 1000:.1f} ms, by C on a directory "
+          f"{their_time * 1000:.1f} ms: {our_time / their_time:.2f} times")
 
 
-def commits(zj, plain, place):
+def client_commits(ours, theirs, place):
     lines = client(CLIENT_CALLS)
-    without, answers = least(on_new_image, zj, place, script(lines))
-    assert answers == least(on_new_directory, plain, place, script(lines))[1]
-    text = script(lines, commit=CLIENT_CHANGES)
-    with_commits, answers = least(on_new_image, zj, place, text)
-    assert answers == least(on_new_directory, plain, place, text)[1]
-    count = answers.count(b" committed ")
-    print(f"a client of {len(lines):,} calls, {sum(map(is_change, lines)):,} of them changes: {without * 1000:.1f} ms; with {count:,} commits "
-          f"{with_commits * 1000:.1f} ms: {with_commits / without:.2f} times")
+    plain, committed = script(lines), script(lines, commit=CLIENT_CHANGES)
+    (without, answers), (with_commits, told), (_, same), (_, same_told) = least(
+        place, (ours, plain), (ours, committed), (theirs, plain), (theirs, committed))
+    assert (answers, told) == (same, same_told)
+    print(f"a client of {len(lines):,} calls, {sum(map(is_change, lines)):,} of them changes: {without * 1000:.1f} ms; with "
+          f"{told.count(b' committed '):,} commits {with_commits * 1000:.1f} ms: {with_commits / without:.2f} times")
 
 
 def main(zj, place="/dev/shm"):
@@ -83,8 +76,9 @@ def main(zj, place="/dev/shm"):
     with tempfile.TemporaryDirectory() as folder:
         plain = os.path.join(folder, "directory")
         subprocess.run(["cc", "-O2", "-o", plain, os.path.join(HERE, "directory.c")], check=True)
-        build(zj, plain, place)
-        commits(zj, plain, place)
+        ours, theirs = [[zj, "make", "4096", "1024", "1", str(AREA)], [zj, "play"]], [[plain]]
+        build(ours, theirs, place)
+        client_commits(ours, theirs, place)
 
 
 if __name__ == "__main__":
