@@ -145,7 +145,8 @@ static int call(char *words)
 
 int main(void)
 {
-    size_t length = 0, count;
+    size_t length = 0;
+    ssize_t count;
     while (length < INPUT_BYTES && (count = read(0, input + length, INPUT_BYTES - length)) > 0)
         length += count;
     input[length] = 0;
