@@ -5,7 +5,7 @@
 
 `make` makes an image, and its bytes are compared. A script `examples/NAME.script` is played on such an image, or on one of two cores, and its
 answers have to be those of `examples/NAME.answers`; schedules that commit leave journals of which `check` and `dump` tell what is recovered; scripts
-that are refused tell the place. Then `check` and `play` read images that are whole, cut, overwritten,
+that are refused tell the place; folders are named before the command. Then `check` and `play` read images that are whole, cut, overwritten,
 swapped and absent; the answer, the status and the files are compared.
 """
 import glob
@@ -237,6 +237,49 @@ def refuse_sizes(program, sizes, text):
         return failed + compare("no file", contents(folder) == {}, True)
 
 
+def option_cases(folder):
+    """Words that begin with a folder, and what they answer in a folder that holds one named `inner`, which has a folder `image`."""
+    absolute = os.path.join(folder, "inner", "image")
+    nowhere = (3, "", "zj: folder nowhere: not found\n")
+    unnamed = (1, "", "zj: words\n-C stands before the command, with a folder behind it: zj -C FOLDER COMMAND\n")
+    return [
+        (("-C", "inner", "-C", "image", *MAKE), (0, "", "")),
+        (("-C", "inner/image", *MAKE), refused("exists j0")),
+        (("-C", absolute, "check"), found(0)),
+        (("-C", "nowhere", "-C", absolute, "check"), nowhere),
+        (("-C", "inner", "-C", "..", "-C", "inner", "-C", "image", "dump"), (0, "/ dir 0\n", "")),
+        (("-C", "inner", "-C", absolute, "play"), (0, "1 0 0 names\n", "")),
+        (("-C", "inner/image", "--version"), (0, "zj 0.1.0\n", "")),
+        (("-C", "nowhere", "--version"), (0, "zj 0.1.0\n", "")),
+        (("-C", "nowhere", *MAKE), nowhere),
+        (("-C", "inner", "-C", "nowhere", *MAKE), nowhere),
+        (("-C", "nowhere", "nonsense"), nowhere),
+        (("-C", "", *MAKE), (3, "", "zj: folder : not found\n")),
+        (("-C", "new\nline", *MAKE), (3, "", "zj: folder new\\nline: not found\n")),
+        (("-C", "file", *MAKE), (3, "", "zj: folder file: not a directory\n")),
+        (("-C",), unnamed),
+        (("-C", "inner", "-C"), unnamed),
+        (("-C", "inner"), (1, "", "zj: words\n")),
+        (("-C", "inner", "nonsense"), (1, "", "zj: words\n")),
+        (("check", "-C", "inner/image"), (1, "", "zj: words\n")),
+        ((), (1, "", "zj: words\n")),
+    ]
+
+
+def go(program):
+    """Works in folders that are named before the command."""
+    with tempfile.TemporaryDirectory() as folder:
+        os.makedirs(os.path.join(folder, "inner", "image"))
+        write(folder, {"file": b""})
+        failed = sum(compare(words, run(program, folder, *words, lines=b"0 list /\n"), want) for words, want in option_cases(folder))
+        told = run(program, folder, "--help")
+        failed += compare("--help behind a folder", run(program, folder, "-C", "inner", "-C", "image", "--help"), told)
+        failed += compare("--help behind a folder that isn't there", run(program, folder, "-C", "nowhere", "-h"), told)
+        failed += compare("--help", (told[0], told[1].startswith("zj: a journalling"), told[2]), (0, True, ""))
+        failed += compare("the files", (sorted(os.listdir(folder)), os.listdir(os.path.join(folder, "inner"))), (["file", "inner"], ["image"]))
+        return failed + compare("the image", contents(os.path.join(folder, "inner", "image")) == NEW, True)
+
+
 def main(program):
     program = os.path.realpath(program)
     scripts = sorted(glob.glob(os.path.join(HERE, "*.script")))
@@ -246,6 +289,7 @@ def main(program):
     failed += sum(commit(program, *schedule) for schedule in COMMITTED)
     failed += sum(refuse(program, *script) for script in REFUSED)
     failed += sum(refuse_sizes(program, *sizes) for sizes in WRONG_SIZES)
+    failed += go(program)
     failed += sum(close_output(program, command) for command in ("play", "check", "dump"))
     with tempfile.TemporaryDirectory() as folder:
         os.symlink("home", os.path.join(folder, "home"))

@@ -1,11 +1,13 @@
-//! The program `zj`: the top call over the current folder and the real standard streams.
+//! The program `zj`: the top call over a folder and the real standard streams.
 #![tactic(auto)]
 
+mod folder;
 mod place;
 mod recorded;
 mod sizes;
 mod usage;
 
+use folder::{enter, split_options, tell_folder};
 use place::tell_place;
 use recorded::Recorded;
 use sizes::tell_sizes;
@@ -18,23 +20,21 @@ use zj_dev::{FolderShelf, InSource, OutSink};
 fn main(rt: HostRuntime) -> io::Result<ExitCode> {
     let alloc = rt.alloc();
     let words: Vec<String> = env::args(&rt)?.skip(1).collect(alloc)?;
-    if let Some(text) = usage::told(words.as_slice()) {
+    let (options, words) = split_options(words.as_slice());
+    if let Some(text) = usage::told(words) {
         print!(rt; "{text}")?;
         return Ok(ExitCode::SUCCESS);
+    }
+    if let Err(fault) = enter(&rt, options) {
+        return Ok(tell_folder(&rt, &fault));
     }
     let _guards = [guard(&rt), guard(&rt), guard(&rt)];
     let mut shelf = FolderShelf::new(&rt);
     let mut input = Recorded::new(rt.alloc(), InSource::new(rt.reader()));
     let mut out = OutSink::new(io::writer(&rt));
-    let status = zj_tool(
-        rt.alloc(),
-        words.as_slice(),
-        &mut shelf,
-        &mut input,
-        &mut out,
-    );
+    let status = zj_tool(rt.alloc(), words, &mut shelf, &mut input, &mut out);
     // A fault that can't be told changes nothing of the status.
-    let _ = tell_fault(&rt, &status, words.as_slice(), input.given());
+    let _ = tell_fault(&rt, &status, words, input.given());
     Ok(ExitCode::from(status.code()))
 }
 

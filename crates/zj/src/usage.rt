@@ -5,8 +5,10 @@ const VERSION: &str = "zj 0.1.0\n";
 const HELP: &str = "zj: a journalling file service, proved
 
 Usage:
+  zj [-C FOLDER].. COMMAND
+                  works in that folder; of several, each is sought from the one before
   zj make [BLOCKS NODES CORES AREA]
-                  makes an image in the current folder
+                  makes an image in the folder
   zj play         runs the script on standard input on that image, and prints the answers
   zj check        prints what the journals of that image hold, and what is recovered
   zj dump         prints the tree that is recovered of that image
@@ -126,8 +128,8 @@ it has, and these as a TEXT, as
   /f file 2 hi
 
 Status: 0 done; and with a text on standard error: 1 the words are no command,
-2 the input is refused, 3 a device of the image is absent, exists already, holds
-something else or is not built yet, 4 a device failed, 5 out of memory, 6 reading
+2 the input is refused, 3 the folder or a device of the image is absent, or the device
+exists already, holds something else or is not built yet, 4 a device failed, 5 out of memory, 6 reading
 standard input failed, 7 writing failed.
 ";
 
