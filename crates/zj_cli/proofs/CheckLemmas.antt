@@ -46,7 +46,7 @@ use Rattle.zj_cli.specs.declared.check.Telling.TheVariants as tellings
 use Rattle.zj_cli.specs.Check.{AllHold, IsDeviceCause, IsDevicesCause, IsHeld, IsImageCause, IsReadingCause, IsReadTo, IsTold, JournalHolds, OfJournal, Spelling, Tells, check_text, journal_text, restored_text, size_text, tally_text, dump_text, spelling_of, telling_text, tree_text}
 use Rattle.zj_cli.specs.Phases.{JournalFails}
 use Rattle.zj_cli.specs.Faults.{fault_of_mounting, fault_of_opening}
-use Rattle.zj_cli.specs.Mount.{HoldNothing, IsAtRest, IsFirstUsed, Mounts}
+use Rattle.zj_cli.specs.Mount.{HoldNothing, IsUnused, IsFirstUsed, Mounts}
 use Rattle.zj_cli.proofs.PlayLemmas.{IsTreesCause}
 
 -- ---- opening
@@ -349,7 +349,7 @@ module _ {D : Type 0} (view : D → DiskView) (before mid now : ShelfView) (home
       one None e h = absurd h
       one (Some a) e h = of_area (λ sizes core image tail. (end : Tail) × Holds sizes core image tail [] end) core a e h
 
-  at_rest : AreEmpty view old (length old) → IsAtRest before super
+  at_rest : AreEmpty view old (length old) → IsUnused before super
   at_rest empty = record { home = has_home; journals = has_journals; empty = λ core below. holds_nothing (length old) (omega arith) empty core (omega (arith, below, in_order.many)) }
 
   pub mounts_tree : (d : D) (start : State) (tree : FileTree) → view d ≡ home → HasTree view super d old start tree → Mounts before super start tree

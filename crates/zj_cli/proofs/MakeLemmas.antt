@@ -17,7 +17,7 @@ use Rattle.zj_home.specs.Made.{HasNoLetters, IsHome, IsMade, MakesOnly, first_su
 use Rattle.zj_tree.specs.Tree.{root_alone}
 use Rattle.zj_layout.specs.Shows.{Shows}
 use Rattle.zj_cli.specs.declared.status.Fault.{Fault}
-use Rattle.zj_cli.specs.Make.{IsBegun, IsClosing, IsCreateCause, IsFailedHome, IsHomeCause, IsInSet, IsMadeHome, IsNew, IsNewHome, IsNewJournal, MakeEnds, MakesJournals, MakesNext, MakesSet}
+use Rattle.zj_cli.specs.Make.{IsBeingMade, IsClosing, IsCreateCause, IsFailedHome, IsHomeCause, IsInSet, IsMadeHome, IsNew, IsNewHome, IsNewJournal, MakeEnds, MakesJournals, MakesNext, MakesSet}
 use Rattle.zj_cli.specs.Outside.{Outside}
 use Rattle.zj_mount.specs.Set.{home_name, journal_name}
 use Rattle.zj_mount.proofs.SetLemmas.{journals_differ}
@@ -77,7 +77,7 @@ module _ (sizes : Numbers) (blocks : List (List ℕ)) (shows : Shows sizes block
   new_home : (image : List ℕ) → IsHome (first_super sizes) blocks image → IsNewHome sizes image
   new_home image home = record { opens = home.opens; shows = record { blocks = blocks; held = home.blocks_are; shows = shows } }
 
-  begun : (blank disk : DiskView) → IsBlank (home_length sizes) blank → Continues blank disk → MakesOnly (first_super sizes) blocks blank disk → IsBegun sizes blank disk
+  begun : (blank disk : DiskView) → IsBlank (home_length sizes) blank → Continues blank disk → MakesOnly (first_super sizes) blocks blank disk → IsBeingMade sizes blank disk
   begun blank disk is goes_on only = record {
     was_blank = is;
     continues = goes_on;

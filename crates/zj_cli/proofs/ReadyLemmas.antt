@@ -11,7 +11,7 @@ use Rattle.zj_mount.specs.declared.recovered.Tally.{Tally}
 use Rattle.zj_mount.specs.Recovered.{empty_from}
 use Rattle.zj_mount.specs.Opening.{AllOpened}
 use Rattle.zj_mount.specs.Scanning.{AreReady, IsNowReady}
-use Rattle.zj_core.specs.Core.{IsReady}
+use Rattle.zj_core.specs.Core.{IsReadyToCommit}
 use Rattle.zj_session.specs.Playing.{AreJournals}
 use Rattle.zj_cli.proofs.SpellLemmas.{none_there}
 
@@ -24,7 +24,7 @@ pub journals_ready : {D : Type 0} (super : Super) (sizes : Numbers) (old new : L
     → length told ≡ super.sizes.cores → ((core : ℕ) → core < super.sizes.cores → slice_get told core ≡ option_map empty_from (slice_get super.tails core)) → AreJournals sizes new
 journals_ready {D = D} super sizes old new told same opened many ready count told_is core = at (slice_get new core) refl
   where
-    was : (b : AreaView D) (o : Option (AreaView D)) (t : Option Tail) → IsSomeAnd o (λ a. IsNowReady a b) → IfSome o (λ a. IfSome t (λ tail. a ≡ just_opened a.device super.sizes core tail)) → IsSome t → (b.core ≡ core) × (b.sizes ≡ sizes) × IsReady b
+    was : (b : AreaView D) (o : Option (AreaView D)) (t : Option Tail) → IsSomeAnd o (λ a. IsNowReady a b) → IfSome o (λ a. IfSome t (λ tail. a ≡ just_opened a.device super.sizes core tail)) → IsSome t → (b.core ≡ core) × (b.sizes ≡ sizes) × IsReadyToCommit b
     was b None t now first some = absurd now
     was b (Some a) None now first some = cc
     was b (Some a) (Some tail) now first some = (
@@ -37,7 +37,7 @@ journals_ready {D = D} super sizes old new told same opened many ready count tol
       },
     )
 
-    at : (o : Option (AreaView D)) → slice_get new core ≡ o → IfSome o (λ area. (area.core ≡ core) × (area.sizes ≡ sizes) × IsReady area)
+    at : (o : Option (AreaView D)) → slice_get new core ≡ o → IfSome o (λ area. (area.core ≡ core) × (area.sizes ≡ sizes) × IsReadyToCommit area)
     at None e = tt
     at (Some b) e =
         let below : core < length old = omega (arith, slice_get_within new core b e, many) in

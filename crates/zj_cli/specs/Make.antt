@@ -44,7 +44,7 @@ pub record IsNewHome (sizes : Numbers) (image : List ℕ) : Type 0 where
   pub shows : ShowsIn sizes image root_alone
 
 -- A blank device on which a home was being made: whatever a crash left of it at any moment is no image, or the new home.
-pub record IsBegun (sizes : Numbers) (blank disk : DiskView) : Type 0 where
+pub record IsBeingMade (sizes : Numbers) (blank disk : DiskView) : Type 0 where
   pub was_blank : IsBlank (home_length sizes) blank
   pub continues : Continues blank disk
   pub moments : EachImageSince blank.calls disk (λ image. IsNoImage image ⊎ IsNewHome sizes image)
@@ -52,13 +52,13 @@ pub record IsBegun (sizes : Numbers) (blank disk : DiskView) : Type 0 where
 -- A home that was made: whatever a crash leaves of it now is the new home.
 pub record IsMadeHome (sizes : Numbers) (disk : DiskView) : Type 0 where
   pub blank : DiskView
-  pub begun : IsBegun sizes blank disk
+  pub begun : IsBeingMade sizes blank disk
   pub left : EachImageSince disk.calls disk (IsNewHome sizes)
 
 -- A home that was not made, since its device failed.
 pub record IsFailedHome (sizes : Numbers) (disk : DiskView) : Type 0 where
   pub blank : DiskView
-  pub begun : IsBegun sizes blank disk
+  pub begun : IsBeingMade sizes blank disk
   pub rose : Rose blank.faults disk.faults
 
 -- The journals of the first cores, so many, are new, and all other names have what they had.

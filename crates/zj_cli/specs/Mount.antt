@@ -20,14 +20,14 @@ abbrev pub HoldNothing : ShelfView → Super → ℕ → Type 0
 HoldNothing names super count = (core : ℕ) → core < count → JournalHolds names super core []
 
 -- An image whose journals hold no record.
-pub record IsAtRest (names : ShelfView) (super : Super) : Type 0 where
+pub record IsUnused (names : ShelfView) (super : Super) : Type 0 where
   pub home : HasHome names super
   pub journals : HasJournals names super super.sizes.cores
   pub empty : HoldNothing names super super.sizes.cores
 
 -- Such an image whose home holds these blocks, which show the tree.
 pub record Mounts (names : ShelfView) (super : Super) (start : State) (tree : FileTree) : Type 0 where
-  pub rests : IsAtRest names super
+  pub rests : IsUnused names super
   pub held : OfDevice (names home_name) (λ image. HoldsBlocks image start (length start))
   pub shows : Shows super.sizes start tree
 
@@ -46,4 +46,4 @@ pub record IsFirstUsed (names : ShelfView) (super : Super) (core : ℕ) : Type 0
 abbrev pub IsTreeCause : ShelfView → ImageFault → Type 0
 IsTreeCause names fault = IsImageCause names fault
     ⊎ ((core : ℕ) × (super : Super) × (fault ≡ images.Unbuilt (devices.Journal core)) × IsFirstUsed names super core)
-    ⊎ ((rule block : ℕ) × (super : Super) × (fault ≡ images.NoTree rule block) × IsAtRest names super × OfDevice (names home_name) (λ image. FailsIn super.sizes image rule block))
+    ⊎ ((rule block : ℕ) × (super : Super) × (fault ≡ images.NoTree rule block) × IsUnused names super × OfDevice (names home_name) (λ image. FailsIn super.sizes image rule block))

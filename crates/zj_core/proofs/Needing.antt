@@ -90,10 +90,10 @@ module _ (sizes : Numbers) (p : PassState) (found : Entries) (call : Call) {foll
 
   pub needs_next : (block : ℕ) → IsDue sizes found call block → NeedsNext sizes p call block
   needs_next block due = record {
-    free = free_of block due.fresh;
-    within = due.within;
+    fresh = same_held block ∙ due.fresh;
     foot = always_same sizes found (entries_held (mine p)) same_held (λ image. Foot sizes image call block) due.foot;
-    first = λ none. due.first (not_taken (root_block sizes) none);
+    first = λ none. due.first (sym (same_held (root_block sizes)) ∙ none);
+    within = due.within;
   }
 
   pub needs_no_more : IsPerformed sizes found call → NeedsNoMore sizes p call

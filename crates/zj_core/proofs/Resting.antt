@@ -19,7 +19,7 @@ use Rattle.zj_turns.specs.Passes.{CacheParameters, IsIdle, PassState, holds, min
 use Rattle.zj_turns.proofs.Lone.{lone_is}
 use Rattle.zj_turns.proofs.Maps.{get_here}
 use Rattle.zj_core.specs.declared.steps.Handle.{Handle}
-use Rattle.zj_core.specs.Core.{CoreState, HasJournal, IsCore, IsReady, IsSteady, IsOneMore, Joins, Performed, Runs, noted_by, taken_by}
+use Rattle.zj_core.specs.Core.{CoreState, HasJournal, IsCore, IsReadyToCommit, IsSteady, IsOneMore, Joins, Performed, Runs, noted_by, taken_by}
 use Rattle.zj_core.specs.Handle.{HasTaken, IsPartOfSome, entries_held, root_block, writers_held}
 use Rattle.zj_core.specs.Steps.{emptied, given_back, with_operation}
 use Rattle.zj_core.specs.declared.handles.Done.{Done}
@@ -58,7 +58,7 @@ lone_taken sizes p none_noted idle =
     (ap (λ (k : Known). k.drawn) own ∙ idle.clear)
     (ap (λ (k : Known). k.held) own ∙ idle.none_held)
 
-pub core_made : {D : Type 0} (p : PassState) (area : AreaView D) (sizes : Numbers) → NoneNoted → NothingKept → IsIdle p.table p.core p → area.core ≡ p.core → area.sizes ≡ sizes → IsReady area → (mine p).operations ≡ []
+pub core_made : {D : Type 0} (p : PassState) (area : AreaView D) (sizes : Numbers) → NoneNoted → NothingKept → IsIdle p.table p.core p → area.core ≡ p.core → area.sizes ≡ sizes → IsReadyToCommit area → (mine p).operations ≡ []
     → (running : Transaction) → running ≡ empty_transaction p.core sizes.cores area.end.number → IsCore (shown p area sizes None running) None
 core_made {D} p area sizes none_noted nothing idle core sizes_are ready none running is = subst (λ (t : Transaction). IsCore {D = D} (shown p area sizes None t) None) (sym is) (record {
   has = lone_taken sizes p none_noted idle;

@@ -18,7 +18,7 @@ use Rattle.zj_tx.specs.Running.{IsSealed, Keeps, Transaction, empty_transaction}
 use Rattle.zj_tx.specs.declared.part.Part.{Part}
 use Rattle.zj_turns.specs.Passes.{PassState, left_of, mine}
 use Rattle.zj_core.specs.declared.steps.Handle.{Handle}
-use Rattle.zj_core.specs.Core.{CoreState, HasJournal, IsOneMore, IsReady, Joins, MayBegin, Runs}
+use Rattle.zj_core.specs.Core.{CoreState, HasJournal, IsOneMore, IsReadyToCommit, Joins, MayBegin, Runs}
 
 -- a core as its parts show it
 abbrev pub shown : {D : Type 0} → PassState → AreaView D → Numbers → Option Handle → Transaction → CoreState D
@@ -50,7 +50,7 @@ module _ {D : Type 0} (p q : PassState) (area : AreaView D) (sizes : Numbers) (h
 
 -- ---- no operation yet
 
-pub runs_none : {D : Type 0} (p : PassState) (area : AreaView D) (sizes : Numbers) → NothingKept → (mine p).operations ≡ [] → IsReady area → Runs (shown p area sizes None (empty_transaction p.core sizes.cores area.end.number))
+pub runs_none : {D : Type 0} (p : PassState) (area : AreaView D) (sizes : Numbers) → NothingKept → (mine p).operations ≡ [] → IsReadyToCommit area → Runs (shown p area sizes None (empty_transaction p.core sizes.cores area.end.number))
 runs_none p area sizes nothing none ready = record {
   core = refl;
   cores = refl;

@@ -1,5 +1,5 @@
 -- What a commit does, at each moment of its device calls.
-use Rattle.std.specs.Prelude.{◌≡◌, ◌≢◌, ◌⊎◌, ℕ, ◌+◌, ◌≤◌, true, false, List, [], ◌∷◌, ◌++◌}
+use Rattle.std.specs.Prelude.{◌≡◌, ◌≢◌, ◌⊎◌, ℕ, ◌+◌, ◌≤◌, true, false, List, [], ◌∷◌, ◌++◌, Result, Ok, Err}
 use Rattle.zj_dev.specs.Fault.{Rose}
 use Rattle.zj_dev.specs.Disk.{Continues, DiskView, EachImageSince, IsDisk}
 use Rattle.zj_tx.specs.Record.{IsRecord, Accepts, Record}
@@ -54,3 +54,8 @@ abbrev pub IsCommitCause : {D : Type 0} → (D → DiskView) → CoreState D →
 IsCommitCause view old new (commits.Failed core) = (old.area.failed ≡ true) × (core ≡ old.pass.core) × (new ≡ old)
 IsCommitCause view old new commits.Empty = (old.area.failed ≡ false) × (old.running.handles ≡ 0) × (new ≡ old)
 IsCommitCause view old new commits.DiskFault = FailsToCommit view old new
+
+-- What a commit answers: the number of the transaction that it committed, or why it committed none.
+abbrev pub AnswersCommit : {D : Type 0} → (D → DiskView) → CoreState D → CoreState D → Result ℕ CommitFault → Type 0
+AnswersCommit view old new (Ok number) = (number ≡ old.running.number) × Commits view old new
+AnswersCommit view old new (Err fault) = IsCommitCause view old new fault

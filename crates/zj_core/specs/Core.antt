@@ -46,7 +46,7 @@ abbrev pub number_of : {D : Type 0} → CoreState D → ℕ
 number_of c = c.running.number
 
 -- A journal that is ready to commit: its records were read, no commit of it has failed, and no record waits for its gate.
-pub record IsReady {D : Type 0} (area : AreaView D) : Type 0 where
+pub record IsReadyToCommit {D : Type 0} (area : AreaView D) : Type 0 where
   pub ready : area.ready ≡ true
   pub sound : area.failed ≡ false
   pub empty : area.laid ≡ None

@@ -74,13 +74,9 @@ pub record IsPerformed (sizes : Numbers) (found : Entries) (call : Call) : Type 
   pub written : Changes
   pub performs : Performs sizes found written call reply
 
--- A call needs a block next: it isn't held, and the call may take it in every state that shows a tree and has the blocks that
--- are held. The first is that of the root's node.
-pub record NeedsNext (sizes : Numbers) (p : PassState) (call : Call) (block : ℕ) : Type 0 where
-  pub free : holds p block ≡ false
-  pub within : block < sizes.blocks
-  pub foot : Always sizes (entries_held (mine p)) (λ image. Foot sizes image call block)
-  pub first : holds p (root_block sizes) ≡ false → block ≡ root_block sizes
+-- A call needs a block next: it is due over the blocks that are held.
+abbrev pub NeedsNext : Numbers → PassState → Call → ℕ → Type 0
+NeedsNext sizes p call block = IsDue sizes (entries_held (mine p)) call block
 
 -- Each block that a pass holds and did not hold before is one that the call may take, in every state that shows a tree and has
 -- the blocks that are held.

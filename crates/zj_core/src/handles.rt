@@ -1,13 +1,13 @@
 //! A core and its handle.
 
-ghost use Rattle.std.specs.Prelude.{[], ◌≡◌, ◌≢◌, IfErr, IfNone, IfOk, IfSome, IsSome, None, OnErr, OnOk, Some, is_some, length, true, false};
+ghost use Rattle.std.specs.Prelude.{[], ◌≡◌, ◌≢◌, IfErr, IfNone, IfOk, IfSome, IsOk, IsSome, None, OnErr, OnOk, Some, is_some, length, true, false};
 ghost use Rattle.std.specs.FinMap as finmap;
 ghost use Rattle.zj_turns.specs.Passes.{IsIdle, IsPeer, left_of, mine, now_knowing, with_away, with_view};
 ghost use Rattle.zj_turns.specs.Views.{joined, without};
 ghost use Rattle.zj_tx.specs.Running.{empty_transaction};
 ghost use Rattle.zj_core.specs.declared.fault.CommitFault.TheVariants as commits;
-ghost use Rattle.zj_core.specs.Committing.{Commits, IsCommitCause};
-ghost use Rattle.zj_core.specs.Core.{IsBeginCause, IsCallCause, IsOf, IsOneMore, IsReady, IsSteady, IsStopCause, IsTakeCause, MayBegin, NeedsNoMore, Performed, TakesNext, number_of};
+ghost use Rattle.zj_core.specs.Committing.{AnswersCommit};
+ghost use Rattle.zj_core.specs.Core.{IsBeginCause, IsCallCause, IsOf, IsOneMore, IsReadyToCommit, IsSteady, IsStopCause, IsTakeCause, MayBegin, NeedsNoMore, Performed, TakesNext, number_of};
 ghost use Rattle.zj_core.specs.Handle.{TakesFor};
 ghost use Rattle.zj_core.specs.Steps.{TakesMore, emptied};
 
@@ -72,7 +72,7 @@ impl<D: Disk> Model for Core<D> {
 impl<D: Disk> Core<D> {
     /// The core of a pass of which nothing is held and a journal that is ready, for an image of these sizes.
     ///
-    /// The error is that there was no memory, and gives both back.
+    /// It takes no memory yet, and so it always answers Ok; where it will, the error gives both back.
     pub fn new(
         alloc: Global,
         pass: Pass<ShowsTree>,
@@ -82,10 +82,10 @@ impl<D: Disk> Core<D> {
         requires idle { IsIdle pass.table pass.core pass }
         requires core { area.core ≡ pass.core }
         requires sizes { area.sizes ≡ sizes.now }
-        requires ready { IsReady area }
+        requires ready { IsReadyToCommit area }
         requires none { (mine pass).operations ≡ [] }
+        ensures made { IsOk result }
         ensures ok { IfOk result (λ core. core ≡ record { pass = pass; area = area; sizes = sizes.now; begun = None; running = empty_transaction pass.core sizes.now.cores area.end.number }) }
-        ensures err { IfErr result (λ refused. (refused.pass ≡ pass) × (refused.area ≡ area)) }
     {
         noted_are_bounds();
         sealed_is_frozen();
@@ -311,9 +311,7 @@ impl<D: Disk> Core<D> {
     /// mount, or not.
     pub fn commit(&mut self) -> Result<u64, CommitFault>
         requires idle { self.old.begun ≡ None }
-        ensures number { IfOk result (λ number. number ≡ number_of self.old) }
-        ensures committed { OnOk result (Commits D.view self.old self.new) }
-        ensures cause { IfErr result (IsCommitCause D.view self.old self.new) }
+        ensures { AnswersCommit D.view self.old self.new result }
     {
         if self.area.failed() {
             return Err(CommitFault::Failed {

@@ -41,6 +41,10 @@ settles_trans a b c first second = record {
       (λ moment image from to may. first.stays b.calls image first.goes_on.calls (omega arith) (second.stays moment image from to may));
 }
 
+-- nothing is pending on a device that was only read, where nothing was before
+pub settled_read : (old new : DiskView) → OnlyReads old new → IsSettled old → IsSettled new
+settled_read old new reads settled image may = reads.bytes ∙ settled image (sym (reads.images new.calls image reads.goes_on.calls (omega arith)) ∙ may)
+
 module _ {D : Type 0} (view : D → DiskView) where
   -- ---- one area
 
@@ -86,6 +90,15 @@ module _ {D : Type 0} (view : D → DiskView) where
       by : (o : Option (AreaView D)) → MatchOption o (o ≡ None) (λ a. IsSomeAnd o (IsSynced view a))
       by None = refl
       by (Some a) = synced_refl a
+
+  -- nothing is pending on areas that were only read, where nothing was before
+  pub all_settled_read : (old new : List (AreaView D)) (many : ℕ) → AreRead view old new → AllSettled view old many → AllSettled view new many
+  all_settled_read old new many read settled core below = by (slice_get old core) (slice_get new core) (read core) (settled core below)
+    where
+      by : (o n : Option (AreaView D)) → MatchOption o (n ≡ None) (λ a. IsSomeAnd n (λ b. OnlyReads (view a.device) (view b.device))) → IsSomeAnd o (λ a. IsSettled (view a.device)) → IsSomeAnd n (λ b. IsSettled (view b.device))
+      by None n none has = absurd has
+      by (Some a) None one has = absurd one
+      by (Some a) (Some b) one has = settled_read (view a.device) (view b.device) one has
 
   -- areas that were synced, and no more, are settled
   pub synced_settles : (old new : List (AreaView D)) → AreSynced view old new → AreSettled view old new

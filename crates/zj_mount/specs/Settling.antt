@@ -1,5 +1,5 @@
 -- Devices that are settled: what was pending on them outlasts a crash from then on. Nothing is written.
-use Rattle.std.specs.Prelude.{◌≡◌, ℕ, ◌<◌, List, [], None, Some, IsSomeAnd, MatchOption, slice_get}
+use Rattle.std.specs.Prelude.{◌≡◌, ℕ, ◌<◌, List, [], length, None, Some, IsSomeAnd, MatchOption, slice_get, ⊤}
 use Rattle.zj_dev.specs.Disk.{Continues, DiskView, IsSettled, StaysSince}
 use Rattle.zj_dev.specs.Fault.{Rose}
 use Rattle.zj_dev.specs.declared.device.Device.TheVariants as devices
@@ -24,6 +24,22 @@ AreSettled view old new = (core : ℕ) → MatchOption (slice_get old core) (sli
 abbrev pub RestEmpty : {D : Type 0} → (D → DiskView) → List (AreaView D) → List (AreaView D) → Type 0
 RestEmpty {D} view old new = (core : ℕ) (a b : AreaView D) → slice_get old core ≡ Some a → slice_get new core ≡ Some b → (IsKnown (journal_of view a) → ⊥) → IsAtRest (journal_of view b) [] × (b.end ≡ b.tail)
 
+-- nothing is pending on the devices of the first areas, so many
+abbrev pub AllSettled : {D : Type 0} → (D → DiskView) → List (AreaView D) → ℕ → Type 0
+AllSettled view areas many = (core : ℕ) → core < many → IsSomeAnd (slice_get areas core) (λ a. IsSettled (view a.device))
+
+-- Nothing is pending on home, nor on any journal.
+pub record NothingPends {D : Type 0} (view : D → DiskView) (home : D) (areas : List (AreaView D)) : Type 0 where
+  pub home_rests : IsSettled (view home)
+  pub journals_rest : AllSettled view areas (length areas)
+
+-- a fault of what the devices hold, and neither of a device nor of memory
+abbrev pub IsOfImage : MountFault → Type 0
+IsOfImage (faults.Damaged device at found expected) = ⊤
+IsOfImage (faults.NoTree rule block) = ⊤
+IsOfImage (faults.Unbuilt device) = ⊤
+IsOfImage fault = ⊥
+
 -- A device failed as it was settled: home, or the journal of a core.
 abbrev pub IsSettleCause : {D : Type 0} → (D → DiskView) → D → D → List (AreaView D) → List (AreaView D) → MountFault → Type 0
 IsSettleCause view home home' old new (faults.DiskFault devices.Home) = Rose (view home).faults (view home').faults
@@ -40,10 +56,6 @@ pub record IsSynced {D : Type 0} (view : D → DiskView) (old new : AreaView D) 
 -- each area is there still, and is such a one
 abbrev pub AreSynced : {D : Type 0} → (D → DiskView) → List (AreaView D) → List (AreaView D) → Type 0
 AreSynced view old new = (core : ℕ) → MatchOption (slice_get old core) (slice_get new core ≡ None) (λ a. IsSomeAnd (slice_get new core) (IsSynced view a))
-
--- nothing is pending on the devices of the first areas, so many
-abbrev pub AllSettled : {D : Type 0} → (D → DiskView) → List (AreaView D) → ℕ → Type 0
-AllSettled view areas many = (core : ℕ) → core < many → IsSomeAnd (slice_get areas core) (λ a. IsSettled (view a.device))
 
 -- why areas were not all settled: the device of one failed
 abbrev pub FailsToSettle : {D : Type 0} → (D → DiskView) → List (AreaView D) → List (AreaView D) → MountFault → Type 0

@@ -4,7 +4,7 @@ ghost use Rattle.std.specs.Prelude.{◌≡◌, ◌⊎◌, ◌<◌, ◌≤◌, �
 ghost use Rattle.std.specs.Option.{option_map};
 ghost use Rattle.zj_block.specs.declared.sizes.TheConstants.{MAX_CORES};
 ghost use Rattle.zj_block.specs.Block.{IsContent, bytes_of};
-ghost use Rattle.zj_dev.specs.Disk.{IsSettled, OnlyReads};
+ghost use Rattle.zj_dev.specs.Disk.{OnlyReads};
 ghost use Rattle.zj_dev.specs.Fault.{Rose};
 ghost use Rattle.zj_home.specs.Made.{HoldsBlocks};
 ghost use Rattle.zj_home.specs.Super.{block_bytes_in};
@@ -14,7 +14,7 @@ ghost use Rattle.zj_mount.specs.declared.fault.MountFault.TheVariants as faults;
 ghost use Rattle.zj_mount.specs.Mounting.{AreEmpty, AreInOrder, HasTree, IsHomeCause, IsMountCause, IsUsedCause};
 ghost use Rattle.zj_mount.specs.Recovered.{empty_from};
 ghost use Rattle.zj_mount.specs.Scanning.{AreRead, AreReady, RestIfSettled};
-ghost use Rattle.zj_mount.specs.Settling.{AreSettled, RestEmpty, Settles};
+ghost use Rattle.zj_mount.specs.Settling.{AreSettled, IsOfImage, NothingPends, RestEmpty, Settles};
 
 use crate::areas::Areas;
 use crate::fault::MountFault;
@@ -31,7 +31,7 @@ use zj_tree::Tree;
 
 /// Mounts an image, whose journals are in the order of their cores: syncs home and then each journal, reads each journal, and
 /// then the blocks of home and the tree that they show. It writes no device. What was pending on one outlasts a crash from
-/// then on.
+/// then on, also where what the devices hold is refused.
 ///
 /// Records are not replayed yet: the lowest journal that holds one is refused as `Unbuilt`, once all were read.
 pub fn mount<D: Disk>(
@@ -57,7 +57,8 @@ pub fn mount<D: Disk>(
     // What it does to the devices: it syncs and reads them.
     ensures told { home.new.told ≡ home.old.told }
     ensures home { Settles (D.view home.old.device) (D.view home.new.device) }
-    ensures settled { OnOk result (IsSettled (D.view home.new.device)) }
+    ensures settled { OnOk result (NothingPends D.view home.new.device areas.new.areas) }
+    ensures refused { IfErr result (λ fault. IsOfImage fault → NothingPends D.view home.new.device areas.new.areas) }
     ensures settles { AreSettled D.view areas.old.areas areas.new.areas }
     ensures rest { OnOk result (RestEmpty D.view areas.old.areas areas.new.areas) }
     ensures count { length areas.new.areas ≡ length areas.old.areas }

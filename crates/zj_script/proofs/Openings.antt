@@ -12,7 +12,7 @@ use Rattle.zj_script.specs.declared.verb.Opening.TheVariants as openings
 use Rattle.zj_script.specs.declared.verb.Verb.{Verb}
 use Rattle.zj_script.specs.declared.verb.Verb.TheVariants as verbs
 use Rattle.zj_script.specs.Grammar.{Part, act_parts, argument_parts, can_begin, has_spelling, is_act, path_part, verb_of, verb_word, words_of}
-use Rattle.zj_script.specs.Reading.{AreArguments, AreOfAct, IsBegun, IsOpening, Lacks, Opens, Stops, opening_word}
+use Rattle.zj_script.specs.Reading.{AreArguments, AreOfAct, IsBeginnable, IsOpening, Lacks, Opens, Stops, opening_word}
 use Rattle.zj_script.proofs.Arguments.{arguments_end, together}
 use Rattle.zj_script.proofs.Leaving.{Begins, lacks_first, stops_alike, stops_behind}
 use Rattle.zj_script.proofs.Spelling.{both, first, second}
@@ -206,15 +206,15 @@ stops_call set opening verb old words stop is opens next s =
     subst (λ (ws : List (List ℕ)). Stops (AreOfAct set) ws stop) (sym next)
     (stops_opened set opening words stop opens (subst (λ (op : Opening). Stops (Follows op) words stop) (sym is) s))
 
-begins_begun : Begins AreBegun kinds.BadCall IsBegun
+begins_begun : Begins AreBegun kinds.BadCall IsBeginnable
 begins_begun line b = (verb_word b.verb, b.more, b.parts_are, (b.verb, b.can, refl))
 
 pub lacks_begun : (set : Acts) (opening : Opening) (old words : List (List ℕ)) (stop : Stop) → opening ≡ openings.Begin → Opens set opening → old ≡ opening_word opening ∷ words
-    → Lacks IsBegun kinds.BadCall words stop → Stops (AreOfAct set) old stop
+    → Lacks IsBeginnable kinds.BadCall words stop → Stops (AreOfAct set) old stop
 lacks_begun set opening old words stop is opens next lacks =
     subst (λ (ws : List (List ℕ)). Stops (AreOfAct set) ws stop) (sym next)
     (stops_opened set opening words stop opens (subst (λ (op : Opening). Stops (Follows op) words stop) (sym is)
-    (lacks_first AreBegun kinds.BadCall IsBegun words stop (codes "mkdir") (path_part [] ∷ []) (record { verb = verbs.Mkdir; more = path_part [] ∷ []; can = refl; parts_are = refl; are = some_call }) begins_begun lacks)))
+    (lacks_first AreBegun kinds.BadCall IsBeginnable words stop (codes "mkdir") (path_part [] ∷ []) (record { verb = verbs.Mkdir; more = path_part [] ∷ []; can = refl; parts_are = refl; are = some_call }) begins_begun lacks)))
 
 pub stops_begun : (set : Acts) (opening : Opening) (verb : Verb) (old words more : List (List ℕ)) (stop : Stop) → opening ≡ openings.Begin → Opens set opening → old ≡ opening_word opening ∷ words
     → IsTrue (can_begin verb) → words ≡ verb_word verb ∷ more → Stops (AreArguments verb) more stop → Stops (AreOfAct set) old stop
@@ -222,7 +222,7 @@ stops_begun set opening verb old words more stop is opens next can after s =
     subst (λ (ws : List (List ℕ)). Stops (AreOfAct set) ws stop) (sym next)
     (stops_opened set opening words stop opens (subst (λ (op : Opening). Stops (Follows op) words stop) (sym is)
     (subst (λ (ws : List (List ℕ)). Stops AreBegun ws stop) (sym after)
-    (stops_behind AreBegun kinds.BadCall IsBegun (verb_word verb) more stop begins_begun
+    (stops_behind AreBegun kinds.BadCall IsBeginnable (verb_word verb) more stop begins_begun
     (stops_alike (AreArguments verb) (λ parts. AreBegun ((kinds.BadCall, verb_word verb) ∷ parts)) more stop
     (λ parts a. record { verb = verb; more = parts; can = can; parts_are = refl; are = a }) (λ parts b. begun_arguments verb parts b) s)))))
 

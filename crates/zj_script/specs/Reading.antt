@@ -71,8 +71,8 @@ abbrev pub IsOpening : Acts → List ℕ → Type 0
 IsOpening set word = (opening : Opening) × Opens set opening × (word ≡ opening_word opening)
 
 -- the verb of a call that can be begun
-abbrev pub IsBegun : List ℕ → Type 0
-IsBegun word = (verb : Verb) × IsTrue (can_begin verb) × (word ≡ verb_word verb)
+abbrev pub IsBeginnable : List ℕ → Type 0
+IsBeginnable word = (verb : Verb) × IsTrue (can_begin verb) × (word ≡ verb_word verb)
 
 -- a core below the count of cores, or none where a checkpoint can stand
 abbrev pub IsCore : Acts → ℕ → Option ℕ → Type 0

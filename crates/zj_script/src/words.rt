@@ -4,7 +4,7 @@ ghost use Rattle.std.specs.Prelude.{◌≡◌, ◌≢◌, ◌<◌, ℕ, List, []
 ghost use Rattle.zj_tree.specs.Path.{is_path, path_text};
 ghost use Rattle.zj_script.specs.declared.kind.Kind.TheVariants as kinds;
 ghost use Rattle.zj_script.specs.Grammar.{can_begin, core_word, verb_word};
-ghost use Rattle.zj_script.specs.Reading.{IsBegun, IsCore, IsCoreWord, IsNumber, IsOpening, IsPath, IsText, Lacks, Opens, opening_word};
+ghost use Rattle.zj_script.specs.Reading.{IsBeginnable, IsCore, IsCoreWord, IsNumber, IsOpening, IsPath, IsText, Lacks, Opens, opening_word};
 ghost use Rattle.zj_script.specs.Text.{bytes_text, has_text};
 
 use crate::fault::Stop;
@@ -101,7 +101,7 @@ impl<'a> Words<'a> {
     /// The next word as the verb of a call that can be begun.
     pub(crate) fn begun(&mut self) -> Result<Verb, Stop>
         ensures ok { IfOk result (λ verb. IsTrue (can_begin verb) × (words_left self.old ≡ verb_word verb ∷ words_left self.new)) }
-        ensures err { IfErr result (Lacks IsBegun kinds.BadCall (words_left self.old)) }
+        ensures err { IfErr result (Lacks IsBeginnable kinds.BadCall (words_left self.old)) }
     {
         let left = self.left();
         match self.next_begun() {
@@ -177,7 +177,7 @@ impl<'a> Words<'a> {
     /// The verb that is the next word, of a call that can be begun. None exactly where that is none.
     fn next_begun(&mut self) -> Option<Verb>
         ensures some { IfSome result (λ verb. IsTrue (can_begin verb) × (words_left self.old ≡ verb_word verb ∷ words_left self.new)) }
-        ensures none { IfNone result ((word : List ℕ) (more : List (List ℕ)) → IsBegun word → words_left self.old ≡ word ∷ more → ⊥) }
+        ensures none { IfNone result ((word : List ℕ) (more : List (List ℕ)) → IsBeginnable word → words_left self.old ≡ word ∷ more → ⊥) }
     {
         read_begun(self.next()?)
     }

@@ -109,9 +109,9 @@ module _ (start : BlockState) (history : List Operation) (p : PassState) (blocks
   -- a block that is needed next is due, and where none is needed the call is performed
   pub next_due : (sizes : Numbers) (call : Call) (block : ℕ) → NeedsNext sizes p call block → IsDue sizes (contents_in (after start history) blocks) call block
   next_due sizes call block next = record {
-    fresh = none_under block next.free;
+    fresh = same_contents block ∙ next.fresh;
     foot = always_same sizes (entries_held (mine p)) (contents_in (after start history) blocks) same_contents (λ image. Foot sizes image call block) next.foot;
-    first = λ none. next.first (free_of (root_block sizes) none);
+    first = λ none. next.first (sym (same_contents (root_block sizes)) ∙ none);
     within = next.within;
   }
 

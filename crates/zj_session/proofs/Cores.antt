@@ -7,7 +7,7 @@ use Rattle.zj_tx.specs.Running.{empty_transaction}
 use Rattle.zj_turns.specs.Passes.{CacheParameters, IsIdle, PassState, dealt, fresh, mine}
 use Rattle.zj_turns.specs.Views.{Known, blank}
 use Rattle.zj_turns.proofs.Lone.{fresh_idle, lone_is}
-use Rattle.zj_core.specs.Core.{CoreState, IsReady}
+use Rattle.zj_core.specs.Core.{CoreState, IsReadyToCommit}
 use Rattle.zj_session.specs.Playing.{AreIdle, AreJournals, journals_of}
 use Rattle.zj_session.specs.Starting.{AreFresh, IsFresh}
 use Rattle.zj_session.proofs.Lists.{all_at, at_end}
@@ -84,9 +84,9 @@ module _ {D : Type 0} (cores : List (CoreState D)) (rest waiting areas : List (A
   next_out : journals_of cores ++ (a ∷ reverse rest) ≡ areas
   next_out = ap (λ r. journals_of cores ++ r) (sym (ap reverse out ∙ reverse-append rest (a ∷ []))) ∙ is
 
-  pub own_journal : (sizes : Numbers) (n : ℕ) → length cores ≡ n → AreJournals sizes areas → (a.core ≡ n) × (a.sizes ≡ sizes) × IsReady a
+  pub own_journal : (sizes : Numbers) (n : ℕ) → length cores ≡ n → AreJournals sizes areas → (a.core ≡ n) × (a.sizes ≡ sizes) × IsReadyToCommit a
   own_journal sizes n long each =
-      subst (λ o. IfSome o (λ (area : AreaView D). (area.core ≡ n) × (area.sizes ≡ sizes) × IsReady area)) (at_front (journals_of cores) (reverse rest) areas a n (journals_long cores ∙ long) next_out) (each n)
+      subst (λ o. IfSome o (λ (area : AreaView D). (area.core ≡ n) × (area.sizes ≡ sizes) × IsReadyToCommit area)) (at_front (journals_of cores) (reverse rest) areas a n (journals_long cores ∙ long) next_out) (each n)
 
   pub journals_more : (c : CoreState D) (p : PassState) (sizes : Numbers) → c ≡ record { pass = p; area = a; sizes = sizes; begun = None; running = empty_transaction p.core sizes.cores a.end.number } → (later : List (CoreState D)) → later ≡ cores ++ c ∷ [] → journals_of later ++ reverse rest ≡ areas
   journals_more c p sizes made later put =

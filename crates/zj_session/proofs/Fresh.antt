@@ -16,7 +16,7 @@ use Rattle.zj_turns.specs.CacheHistory.{IsCacheHistory}
 use Rattle.zj_turns.specs.Views.{Hold, Known, alone, blank}
 use Rattle.zj_turns.specs.Passes.{CacheParameters, IsMadeWith, PassState, holds, mine}
 use Rattle.zj_turns.proofs.Lone.{lone_alone, lone_is}
-use Rattle.zj_core.specs.Core.{CoreState, IsOf, IsReady, IsSteady, Runs}
+use Rattle.zj_core.specs.Core.{CoreState, IsOf, IsReadyToCommit, IsSteady, Runs}
 use Rattle.zj_area.specs.Journal.{AreaView}
 use Rattle.zj_history.specs.Transactions.{operations_of}
 use Rattle.zj_tx.specs.Frozen.{image_in}
@@ -24,7 +24,7 @@ use Rattle.zj_tx.specs.Record.{Ascends}
 use Rattle.zj_tx.specs.Running.{Keeps, Transaction}
 use Rattle.zj_tx.proofs.FrozenLemmas.{nothing_kept}
 use Rattle.zj_mount.specs.Recovered.{Restored}
-use Rattle.zj_session.specs.Playing.{AreJournals, IsAtRest, journals_of}
+use Rattle.zj_session.specs.Playing.{AreJournals, AreResting, journals_of}
 use Rattle.zj_session.specs.Service.{AreTogether, HasHistory, IsService}
 use Rattle.zj_session.specs.Starting.{AreFresh, IsFresh}
 use Rattle.zj_session.proofs.Cores.{idle_all}
@@ -55,7 +55,7 @@ module _ {D : Type 0} (cache : CacheParameters) (sizes : Numbers) (i : ℕ) (c :
   fresh_alone = lone_alone cache.table i blank c.pass fresh.pass
 
   -- with its own journal, which is ready
-  module _ (own : (c.area.core ≡ i) × (c.area.sizes ≡ sizes) × IsReady c.area) where
+  module _ (own : (c.area.core ≡ i) × (c.area.sizes ≡ sizes) × IsReadyToCommit c.area) where
     runs : Runs c
     runs = record {
       core = ap (λ (t : Transaction). t.core) fresh.running ∙ sym core_is;
@@ -87,8 +87,8 @@ module _ {D : Type 0} (cache : CacheParameters) (sizes : Numbers) (i : ℕ) (c :
 pub area_at : {D : Type 0} (cores : List (CoreState D)) (i : ℕ) (c : CoreState D) → slice_get cores i ≡ Some c → slice_get (journals_of cores) i ≡ Some c.area
 area_at {D} cores i c at = slice_get-map (λ (d : CoreState D). d.area) cores i ∙ ap (option_map (λ (d : CoreState D). d.area)) at
 
-pub own_at : {D : Type 0} (cores : List (CoreState D)) (sizes : Numbers) → AreJournals sizes (journals_of cores) → (i : ℕ) (c : CoreState D) → slice_get cores i ≡ Some c → (c.area.core ≡ i) × (c.area.sizes ≡ sizes) × IsReady c.area
-own_at {D} cores sizes own i c at = subst (λ o. IfSome o (λ (area : AreaView D). (area.core ≡ i) × (area.sizes ≡ sizes) × IsReady area)) (area_at cores i c at) (own i)
+pub own_at : {D : Type 0} (cores : List (CoreState D)) (sizes : Numbers) → AreJournals sizes (journals_of cores) → (i : ℕ) (c : CoreState D) → slice_get cores i ≡ Some c → (c.area.core ≡ i) × (c.area.sizes ≡ sizes) × IsReadyToCommit c.area
+own_at {D} cores sizes own i c at = subst (λ o. IfSome o (λ (area : AreaView D). (area.core ≡ i) × (area.sizes ≡ sizes) × IsReadyToCommit area)) (area_at cores i c at) (own i)
 
 -- a history without operations
 none_legal : (start : BlockState) → IsLegal start []
@@ -112,7 +112,7 @@ module _ {D : Type 0} (cache : CacheParameters) (sizes : Numbers) (cores : List 
         let one = core_is cache sizes i c (fresh i c here) in let other = core_is cache sizes j d (fresh j d there) in omega arith);
   }
 
-  pub fresh_rest : IsAtRest cache cores
+  pub fresh_rest : AreResting cache cores
   fresh_rest = record { together = fresh_together; idle = idle_all cache sizes cores fresh }
 
   fresh_has : ShowsSome cache.sizes cache.start → HasHistory cache cores []

@@ -12,7 +12,7 @@ use Rattle.zj_layout.proofs.Follow.{some_is}
 use Rattle.zj_mount.specs.Opening.{AllOpened, IsOpened}
 use Rattle.zj_mount.specs.Recovered.{Restored}
 use Rattle.zj_mount.specs.Scanning.{AreReady, IsNowReady}
-use Rattle.zj_core.specs.Core.{IsReady}
+use Rattle.zj_core.specs.Core.{IsReadyToCommit}
 use Rattle.zj_session.specs.Playing.{AreJournals}
 use Rattle.zj_session.specs.Starting.{RestWithNone}
 use Rattle.zj_session.proofs.Roots.{there_or_not}
@@ -32,7 +32,7 @@ module _ {X : Type 0} where
 
 -- one journal, which was opened, and then read
 module _ {D : Type 0} (super : Super) (core : ℕ) (tail : Tail) (old new : AreaView D) (opened_as : old ≡ just_opened old.device super.sizes core tail) (now : IsNowReady old new) where
-  is_own : (new.core ≡ core) × (new.sizes ≡ super.sizes) × IsReady new
+  is_own : (new.core ≡ core) × (new.sizes ≡ super.sizes) × IsReadyToCommit new
   is_own = (
     ap (λ (a : AreaView D). a.core) now ∙ ap (λ (a : AreaView D). a.core) opened_as,
     ap (λ (a : AreaView D). a.sizes) now ∙ ap (λ (a : AreaView D). a.sizes) opened_as,
@@ -50,7 +50,7 @@ mounted_journals {D} super old new tails opened_all long ready core = ⊎_elim
     (there_or_not (slice_get new core))
   where
     P : AreaView D → Type 0
-    P area = (area.core ≡ core) × (area.sizes ≡ super.sizes) × IsReady area
+    P area = (area.core ≡ core) × (area.sizes ≡ super.sizes) × IsReadyToCommit area
 
     here : (b : AreaView D) → slice_get new core ≡ Some b → P b
     here b at =

@@ -1,8 +1,8 @@
 -- What an answer says of the transaction that runs on its core is right.
-use Rattle.std.proofs.Common.{◌≡◌, ◌≢◌, ◌⊎◌, ⊎_elim, ℕ, ◌+◌, ◌==◌, ◌||◌, Bool, true, false, true≢false, cond, is_some, List, [], ◌∷◌, length, map, take, find, get_or, Option, Some, None, slice_get, option_map, refl, sym, ap, ◌∙◌, subst, arith}
+use Rattle.std.proofs.Common.{◌≡◌, ◌≢◌, ◌⊎◌, ⊎_elim, ℕ, ◌+◌, ◌==◌, ◌||◌, Bool, true, false, true≢false, cond, is_some, List, length, get_or, Option, Some, None, IfSome, slice_get, refl, sym, ap, ◌∙◌, subst, arith}
 use Rattle.std.specs.FinMap as finmap
 use Rattle.std.proofs.lemmas.Option.{slice_get-get_or}
-use Rattle.zj_block.specs.Lists.{Entries, content_under}
+use Rattle.zj_block.specs.Sizes.{Numbers}
 use Rattle.zj_block.specs.declared.numbers.Tail.{Tail}
 use Rattle.zj_history.specs.State.{after}
 use Rattle.zj_history.specs.Transactions.{operations_of}
@@ -13,6 +13,8 @@ use Rattle.zj_script.specs.declared.answer.Form.{Form}
 use Rattle.zj_script.specs.declared.answer.Form.TheVariants as forms
 use Rattle.zj_script.specs.declared.answer.SyncForm.TheVariants as syncs
 use Rattle.zj_tree.specs.declared.call.Call.{Call}
+use Rattle.zj_dirs.specs.Possible.{Always}
+use Rattle.zj_inode.specs.Footprint.{Foot}
 use Rattle.zj_inode.specs.Performs.{Performs}
 use Rattle.zj_area.specs.Journal.{fullness}
 use Rattle.zj_area.specs.declared.area.Full.{Full}
@@ -24,12 +26,13 @@ use Rattle.zj_turns.specs.Passes.{CacheParameters, IsLoadedAfter, PassState, hol
 use Rattle.zj_core.specs.Core.{CoreState, HasNoRoom, IsBeginCause, IsHeldUp, MayBegin}
 use Rattle.zj_core.specs.declared.fault.BeginFault.TheVariants as begins
 use Rattle.zj_core.specs.declared.fault.StopFault.TheVariants as stops
-use Rattle.zj_core.specs.Handle.{IsRead, entries_held}
+use Rattle.zj_core.specs.Handle.{IsRead, TakesFor, entries_held, root_block}
 use Rattle.zj_core.specs.Steps.{TakesMore}
-use Rattle.zj_core.proofs.Needing.{held_under, performs_same}
+use Rattle.zj_core.proofs.Needing.{held_more, held_under, performs_same}
 use Rattle.zj_session.specs.Logging.{AreSealed, IsFull, IsOverfull, IsRightOfLog, SaysOfLog, end_behind, is_commit, tail_at}
-use Rattle.zj_session.specs.Played.{OpenHandle, begins_handle, call_made, contents_in, handle_after, is_in, is_out_of_order}
-use Rattle.zj_session.proofs.Contents.{same_contents}
+use Rattle.zj_session.specs.Played.{AreBlocksOf, OpenHandle, begins_handle, blocks_of, call_made, contents_in, handle_after, is_in, is_out_of_order, is_stopped}
+use Rattle.zj_session.specs.Service.{IsTold}
+use Rattle.zj_session.proofs.Contents.{blocks_found, blocks_held, blocks_left, held_in, same_contents}
 use Rattle.zj_session.proofs.Growing.{done_taken}
 use Rattle.zj_session.proofs.Sealing.{is_sealed, sealed_as}
 use Rattle.zj_session.proofs.LogKeeps.{rested, same_sealed}
@@ -38,23 +41,6 @@ use Rattle.zj_session.proofs.LogGrows.{LogCase, failed, failed_told, frozen_now,
 -- each block that a core holds was loaded whole
 abbrev pub IsWholly : Known → Type 0
 IsWholly k = (b : ℕ) (h : Hold) → finmap.get k.held b ≡ Some h → IsRead h
-
--- what a pass holds is under the numbers of its entries
-in_keys : (entries : Entries) (b : ℕ) → is_some (content_under entries b) ≡ is_in b (map (λ e. e.0) entries)
-in_keys [] b = refl
-in_keys (e ∷ entries) b = by (e.0 == b) (in_keys entries b)
-  where
-    by : (t : Bool) → is_some (content_under entries b) ≡ is_in b (map (λ (x : ℕ × List ℕ). x.0) entries)
-        → is_some (option_map (λ (x : ℕ × List ℕ). x.1) (cond t (Some e) (find (λ (x : ℕ × List ℕ). x.0 == b) entries))) ≡ (t || is_in b (map (λ (x : ℕ × List ℕ). x.0) entries))
-    by true same = refl
-    by false same = same
-
-held_in : (p : PassState) (b : ℕ) → holds p b ≡ is_in b (map (λ e. e.0) (entries_held (mine p)))
-held_in p b = by (finmap.get (mine p).held b) ∙ ap is_some (sym (held_under (mine p) b)) ∙ in_keys (entries_held (mine p)) b
-  where
-    by : (o : Option Hold) → is_some o ≡ is_some (option_map (λ (h : Hold). take 64 h.loaded) o)
-    by None = refl
-    by (Some h) = refl
 
 -- What a call that has no room took on its way was loaded whole.
 pub middle_read : {D : Type 0} (cache : CacheParameters) (c : CoreState D) (call : Call) (have more : ℕ) (held_up : IsHeldUp cache c call (stops.TxFull have more)) → IsWholly (mine held_up.middle)
@@ -153,7 +139,8 @@ module _ {D : Type 0} (case : LogCase D) where
 
   -- ---- a transaction that would have too many blocks
 
-  module _ (p : PassState) (took : TakesMore cache (met case).pass p) (call : Call) (have more : ℕ) (lacks : HasNoRoom core.sizes p core.running call have more) (read : IsWholly (mine p)) where
+  module _ (p : PassState) (took : TakesMore cache (met case).pass p) (call : Call) (foot : TakesFor core.sizes (met case).pass p call) (have more : ℕ) (lacks : HasNoRoom core.sizes p core.running call have more) (read : IsWholly (mine p))
+      (same_call : (h : OpenHandle) → handle ≡ Some h → h.call ≡ call) where
     -- what was taken on the way is as the history left it
     left_so : (b : ℕ) (h : Hold) → finmap.get (mine p).held b ≡ Some h → IsLoadedAfter cache.start history b h
     left_so b h held = ⊎_elim
@@ -163,7 +150,44 @@ module _ {D : Type 0} (case : LogCase D) where
         took.knows
 
     abbrev blocks : List ℕ
-    blocks = map (λ e. e.0) (entries_held (mine p))
+    blocks = blocks_held p
+
+    own_told : IsTold core handle
+    own_told = serving.told at core at_place
+
+    kept : (b : ℕ) → holds (met case).pass b ≡ true → holds p b ≡ true
+    kept b held = by (finmap.get (mine (met case).pass).held b) refl held
+      where
+        by : (o : Option Hold) → finmap.get (mine (met case).pass).held b ≡ o → is_some o ≡ true → holds p b ≡ true
+        by None is some = absurd (true≢false (sym some))
+        by (Some hold) is some = ap is_some (took.more.kept b hold is)
+
+    was_held : (b : ℕ) → holds (met case).pass b ≡ is_in b own_told.blocks
+    was_held b = ap (λ (k : Known). finmap.contains_key k.held b) (same_mine case) ∙ own_told.held b
+
+    -- the blocks that the handle had before it has still
+    its_before : AreBlocksOf core.sizes (entries_held (mine p)) handle own_told.blocks
+    its_before = blocks_found core.sizes (entries_held (mine (met case).pass)) (entries_held (mine p)) handle own_told.blocks
+        (λ b c is. held_under (mine p) b ∙ held_more (mine (met case).pass) (mine p) took.more b c (sym (held_under (mine (met case).pass) b) ∙ is))
+        (subst (λ (k : Known). AreBlocksOf core.sizes (entries_held k) handle own_told.blocks) (sym (same_mine case)) own_told.its)
+
+    -- its call may take each that was not taken one by one
+    its : AreBlocksOf core.sizes (entries_held (mine p)) (Some (record { call = call; taken = blocks_of handle; stopped = true })) blocks
+    its = record {
+      only = λ is. absurd (true≢false is);
+      taken = λ b has. sym (held_in p b) ∙ kept b (was_held b ∙ its_before.taken b has);
+      root = λ _. sym (held_in p (root_block core.sizes)) ∙ lacks.root;
+      foot = λ b there without. its_foot b (held_in p b ∙ there) without (holds (met case).pass b) refl;
+    }
+      where
+        of_handle : (b : ℕ) (o : Option OpenHandle) → handle ≡ o → IfSome o (λ h. Always core.sizes (entries_held (mine p)) (λ image. Foot core.sizes image h.call b)) → is_in b own_told.blocks ≡ true
+            → Always core.sizes (entries_held (mine p)) (λ image. Foot core.sizes image call b)
+        of_handle b None is none there = absurd (true≢false (sym there ∙ ap (is_in b) (own_told.its.only (ap is_stopped is) ∙ ap blocks_of is)))
+        of_handle b (Some h) is always there = subst (λ (c : Call). Always core.sizes (entries_held (mine p)) (λ image. Foot core.sizes image c b)) (same_call h is) always
+
+        its_foot : (b : ℕ) → holds p b ≡ true → is_in b (blocks_of handle) ≡ false → (t : Bool) → holds (met case).pass b ≡ t → Always core.sizes (entries_held (mine p)) (λ image. Foot core.sizes image call b)
+        its_foot b held without false was = foot b held was
+        its_foot b held without true was = of_handle b handle refl (its_before.foot b (sym (was_held b) ∙ was) without) (sym (was_held b) ∙ was)
 
     performed : Performs core.sizes (contents_in (after cache.start history) blocks) lacks.written call lacks.reply
     performed = performs_same core.sizes (entries_held (mine p)) (contents_in (after cache.start history) blocks) (same_contents cache.start history p blocks (held_in p) left_so) lacks.written call lacks.reply lacks.performs
@@ -177,6 +201,8 @@ module _ {D : Type 0} (case : LogCase D) where
       call = call;
       call_is = made;
       blocks = blocks;
+      its = subst (λ (n : Numbers). AreBlocksOf n (contents_in (after cache.start history) blocks) (Some (record { call = call; taken = blocks_of handle; stopped = true })) blocks) (sym (was_of case).sizes)
+          (blocks_left cache.start history p blocks (held_in p) left_so core.sizes (Some (record { call = call; taken = blocks_of handle; stopped = true })) its);
       reply = lacks.reply;
       written = lacks.written;
       performs = subst (λ n. Performs n (contents_in (after cache.start history) blocks) lacks.written call lacks.reply) (sym (was_of case).sizes) performed;

@@ -10,6 +10,7 @@ use Rattle.zj_script.specs.declared.line.Act.TheVariants as acts
 use Rattle.zj_script.specs.declared.answer.Form.{Form}
 use Rattle.zj_script.specs.declared.answer.Form.TheVariants as forms
 use Rattle.zj_script.specs.declared.answer.SyncForm.TheVariants as syncs
+use Rattle.zj_layout.proofs.Follow.{none_some, some_is}
 use Rattle.zj_tree.specs.declared.call.Call.{Call}
 use Rattle.zj_tree.specs.declared.call.Reply.{Reply}
 use Rattle.zj_closure.specs.Found.{Journals}
@@ -122,7 +123,7 @@ module _ {D : Type 0} (case : LogCase D) where
         calm (forms.TxFull have more) refl refl refl grows (same_as (met case) d.1),
         right_begun case (acts.Call call) (forms.TxFull have more) d.0.may (
           sound_told case d.0.may.sound,
-          overfull case d.0.middle d.0.taken call have more d.0.cause (middle_read cache (met case) call have more d.0) d.0.may.sound (acts.Call call) refl,
+          overfull case d.0.middle d.0.taken call d.0.foot have more d.0.cause (middle_read cache (met case) call have more d.0) (λ h is. absurd (none_some (sym shut ∙ is))) d.0.may.sound (acts.Call call) refl,
         ),
       )
       idle (acts.Call call) form d grows = unbegun (acts.Call call) form d.0 d.1 grows
@@ -168,7 +169,7 @@ module _ {D : Type 0} (case : LogCase D) where
       open_does acts.Stop (forms.Busy block holder) d grows = (calm (forms.Busy block holder) refl refl refl grows (same_as (record (met case) { pass = gone.pass }) d.3), right_other case acts.Stop (forms.Busy block holder) refl refl tt)
       open_does acts.Stop (forms.TxFull have more) d grows = (
         calm (forms.TxFull have more) refl refl refl grows (same_as (record (met case) { pass = gone.pass }) d.3),
-        right_other case acts.Stop (forms.TxFull have more) refl refl (sound_told case sound, overfull case gone.pass d.0 call have more d.2 gone_read sound acts.Stop (sym (serving.told at core at_place).begun ∙ some)),
+        right_other case acts.Stop (forms.TxFull have more) refl refl (sound_told case sound, overfull case gone.pass d.0 call d.1 have more d.2 gone_read (λ h is. ap (λ (o : OpenHandle). o.call) (some_is (sym is ∙ opened.1)) ∙ opened.2) sound acts.Stop (sym (serving.told at core at_place).begun ∙ some)),
       )
       open_does acts.Drop forms.Dropped d grows = (calm forms.Dropped refl refl refl grows (ap (λ (c : CoreState D). c.area) d, ap (λ (c : CoreState D). c.sizes) d, ap (λ (c : CoreState D). c.running) d), right_other case acts.Drop forms.Dropped refl refl tt)
       open_does (acts.Call other) forms.Order d grows = held (acts.Call other) (ap (λ o. is_out_of_order o (acts.Call other)) opened.1) d grows tt

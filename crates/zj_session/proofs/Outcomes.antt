@@ -27,7 +27,7 @@ use Rattle.zj_session.specs.Played.{AreBlocksOf, IsDrawn, IsHeldBy, IsRight, OnI
 use Rattle.zj_session.specs.Service.{IsServing, IsTold}
 use Rattle.zj_session.proofs.Contents.{always_found, blocks_left, content_there, held_there, next_due, no_more_performed}
 use Rattle.zj_session.proofs.Growing.{HasDone, done_drawn, ticket_next, told_more, told_place}
-use Rattle.zj_session.proofs.Roots.{busy_of, excluded, is_held_by, not_holding, root_told, same_busy, then_free}
+use Rattle.zj_session.proofs.Roots.{busy_of, excluded, is_held_by, none_held, not_holding, root_told, same_busy, then_free}
 use Rattle.zj_session.proofs.Serving.{GoesOn}
 use Rattle.zj_session.proofs.Steps.{before, before_its, before_loaded, before_told, handle, met, sizes_are, told}
 use Rattle.zj_session.proofs.Views.{HasMet, core_then, met_holds, others_then}
@@ -176,7 +176,7 @@ module _ {D : Type 0} (cache : CacheParameters) (old : List (CoreState D)) (play
   pub taken_busy : (call : Call) (taken : ℕ) → TakesNext cache core.sizes known gone.pass call taken → (block holder : ℕ) → IsHeldBy core.sizes (handle_after played) at block holder → ⊥
   taken_busy call taken took block holder held =
       let free = own_free held.not_own in
-      not_free block holder held (took.takes.free (root_block core.sizes) (subst (λ b. holds gone.pass b ≡ true) (took.needs.first free) took.held) free)
+      not_free block holder held (took.takes.free (root_block core.sizes) (subst (λ b. holds gone.pass b ≡ true) (took.needs.first (none_held known (root_block core.sizes) free)) took.held) free)
 
   pub ready_says : (call : Call) → NeedsNoMore core.sizes known call → (h : OpenHandle) → own ≡ Some h → h.call ≡ call
       → OnItsBlocks core.sizes (after cache.start history) own (λ found call. IsPerformed core.sizes found call)

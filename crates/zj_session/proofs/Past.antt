@@ -16,7 +16,7 @@ use Rattle.zj_layout.proofs.Follow.{none_some}
 use Rattle.zj_tx.specs.Record.{Record}
 use Rattle.zj_tx.specs.Running.{Transaction}
 use Rattle.zj_turns.specs.Passes.{CacheParameters}
-use Rattle.zj_core.specs.Core.{CoreState, IsReady}
+use Rattle.zj_core.specs.Core.{CoreState, IsReadyToCommit}
 use Rattle.zj_session.specs.Crashes.{AreLogged, HasLogged, HoldsFirst, KeepsRecords, StandAsTold}
 use Rattle.zj_session.specs.Logging.{tail_at}
 use Rattle.zj_session.specs.Playing.{AreJournals, HasPast, journals_of}

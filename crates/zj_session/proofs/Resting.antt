@@ -18,7 +18,7 @@ use Rattle.zj_core.specs.Handle.{root_block}
 use Rattle.zj_core.specs.Steps.{emptied}
 use Rattle.zj_core.proofs.Knowing.{knowing_same, mine_now}
 use Rattle.zj_session.specs.Answering.{IsLeftOff, without_handle}
-use Rattle.zj_session.specs.Playing.{AreIdle, IsAtRest, journals_of, rested, resting}
+use Rattle.zj_session.specs.Playing.{AreIdle, AreResting, journals_of, rested, resting}
 use Rattle.zj_session.specs.Service.{AreTogether, IsService}
 use Rattle.zj_session.proofs.Alone.{knows_own}
 use Rattle.zj_session.proofs.Lists.{all_at, at_all, mapped_here, mapped_next, mapped_some, pairs_at}
@@ -177,8 +177,8 @@ module _ {D : Type 0} (cache : CacheParameters) (cores : List (CoreState D)) (to
       off
 
 -- and so they rest between two schedules
-pub at_rest : {D : Type 0} (cache : CacheParameters) (last whole : List (CoreState D)) → whole ≡ map resting last → AreTogether cache last → IsAtRest cache whole
-at_rest cache last whole is together = subst (IsAtRest cache) (sym is) (record { together = together_rest cache last together; idle = are_idle last })
+pub at_rest : {D : Type 0} (cache : CacheParameters) (last whole : List (CoreState D)) → whole ≡ map resting last → AreTogether cache last → AreResting cache whole
+at_rest cache last whole is together = subst (AreResting cache) (sym is) (record { together = together_rest cache last together; idle = are_idle last })
 
 -- they serve calls still
 pub rest_serves : {D : Type 0} (cache : CacheParameters) (cores : List (CoreState D)) (history : List Operation) → IsService cache cores history → IsService cache (map resting cores) history

@@ -1,16 +1,19 @@
 -- Which core has the root's block: no two have it, one that holds any block does, and it is taken only where no other one has it.
-use Rattle.std.proofs.Common.{◌≡◌, ◌≢◌, ◌⊎◌, inl, inr, ⊎_elim, ℕ, ◌<◌, Bool, true, false, true≢false, ◌||◌, eq-eqb, List, [], ◌∷◌, get_or, Option, Some, None, slice_get, refl, sym, ap, ◌∙◌, subst}
+use Rattle.std.proofs.Common.{◌≡◌, ◌≢◌, ◌⊎◌, inl, inr, ⊎_elim, ℕ, ◌<◌, Bool, true, false, true≢false, ◌||◌, eq-eqb, List, [], ◌∷◌, get_or, take, is_some, Option, Some, None, slice_get, option_map, refl, sym, ap, ◌∙◌, subst}
 use Rattle.std.specs.FinMap as finmap
 use Rattle.std.proofs.lemmas.Option.{slice_get-get_or}
+use Rattle.zj_block.specs.Lists.{content_under}
 use Rattle.zj_block.specs.Sizes.{Numbers}
 use Rattle.zj_history.specs.Operation.{Operation}
 use Rattle.zj_script.specs.declared.answer.Form.{Form}
 use Rattle.zj_script.specs.declared.answer.Form.TheVariants as forms
 use Rattle.zj_tree.specs.declared.call.Call.{Call}
 use Rattle.zj_turns.specs.Passes.{CacheParameters, PassState, holds, mine}
+use Rattle.zj_turns.specs.Views.{Hold}
+use Rattle.zj_core.proofs.Needing.{held_under}
 use Rattle.zj_core.specs.declared.fault.TakeFault.TheVariants as takes
 use Rattle.zj_core.specs.Core.{CoreState, IsOf, IsSteady, IsTakeCause}
-use Rattle.zj_core.specs.Handle.{root_block}
+use Rattle.zj_core.specs.Handle.{entries_held, root_block}
 use Rattle.zj_core.specs.Steps.{IsFree}
 use Rattle.zj_session.specs.Played.{IsHeldBy, OpenHandle, Played, blocks_of, handle_after, has_block, has_root, is_in, is_stopped}
 use Rattle.zj_session.specs.Service.{IsServing, IsTold}
@@ -31,6 +34,14 @@ there_or_not (Some x) = inr (x, refl)
 none_in : (blocks : List ℕ) → ((b : ℕ) → is_in b blocks ≡ true → ⊥) → blocks ≡ []
 none_in [] never = refl
 none_in (x ∷ blocks) never = absurd (never x (ap (λ t. t || is_in x blocks) (eq-eqb x x refl)))
+
+-- what a pass doesn't hold is under no number of its entries
+pub none_held : (p : PassState) (b : ℕ) → holds p b ≡ false → content_under (entries_held (mine p)) b ≡ None
+none_held p b free = held_under (mine p) b ∙ by (finmap.get (mine p).held b) free
+  where
+    by : (o : Option Hold) → is_some o ≡ false → option_map (λ (h : Hold). take 64 h.loaded) o ≡ None
+    by None none = refl
+    by (Some h) some = absurd (true≢false some)
 
 -- a core holds the root's block where it is told so
 pub root_told : {D : Type 0} (c : CoreState D) (handle : Option OpenHandle) → IsTold c handle → holds c.pass (root_block c.sizes) ≡ has_root c.sizes handle
@@ -132,7 +143,7 @@ module _ {D : Type 0} (cache : CacheParameters) (old : List (CoreState D)) (play
 
       pub is_held_by : IsHeldBy sizes (handle_after played) at block holder
       is_held_by = record {
-        root = cause.0.first then_free;
+        root = cause.0.first (none_held m (root_block sizes) then_free);
         other = apart;
         theirs = sym (root_is holder holding held_there) ∙ their_root;
         not_own = sym (root_is at core at_place) ∙ own_free;

@@ -22,7 +22,7 @@ use Rattle.zj_script.specs.declared.line.Act.TheVariants as acts
 use Rattle.zj_script.specs.declared.answer.Form.{Form}
 use Rattle.zj_script.specs.declared.answer.Form.TheVariants as forms
 use Rattle.zj_script.specs.declared.answer.SyncForm.TheVariants as syncs
-use Rattle.zj_session.specs.Played.{OpenHandle, Played, begins_handle, call_made, contents_in, handle_after, is_on, is_out_of_order, tickets_in}
+use Rattle.zj_session.specs.Played.{AreBlocksOf, OpenHandle, Played, begins_handle, blocks_of, call_made, contents_in, handle_after, is_on, is_out_of_order, tickets_in}
 
 -- ---- what lines tell
 
@@ -84,7 +84,8 @@ pub record IsFull (sizes : Numbers) (tail : Tail) (known : List Operation) (runn
   pub lacks : fullness sizes tail (end_behind sizes tail records) ≡ Some (record { need = need; free = free })
 
 -- New contents perform the call of a line on blocks as the history left them, and with the new ones among these the transaction that runs
--- would have more blocks than a record.
+-- would have more blocks than a record. The blocks are those that the handle took one by one, that of the root's node, and beside these only
+-- such as the call may take.
 pub record IsOverfull (sizes : Numbers) (state : BlockState) (known : List Operation) (running : Writer) (handle : Option OpenHandle) (act : Act) (have more : ℕ) : Type 0 where
   pub sealed_now : Record
   pub ascending : Ascends 0 sealed_now.parts
@@ -93,6 +94,7 @@ pub record IsOverfull (sizes : Numbers) (state : BlockState) (known : List Opera
   pub call : Call
   pub call_is : call_made act handle ≡ Some call
   pub blocks : List ℕ
+  pub its : AreBlocksOf sizes (contents_in state blocks) (Some (record { call = call; taken = blocks_of handle; stopped = true })) blocks
   pub reply : Reply
   pub written : Contents
   pub performs : Performs sizes (contents_in state blocks) written call reply

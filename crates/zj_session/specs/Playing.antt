@@ -13,7 +13,7 @@ use Rattle.zj_tree.specs.declared.call.Call.{Call}
 use Rattle.zj_script.specs.declared.line.Line.{Line}
 use Rattle.zj_script.specs.declared.answer.Answer.{Answer}
 use Rattle.zj_turns.specs.Passes.{CacheParameters}
-use Rattle.zj_core.specs.Core.{CoreState, IsReady}
+use Rattle.zj_core.specs.Core.{CoreState, IsReadyToCommit}
 use Rattle.zj_session.specs.declared.playing.Stopped.{Stopped}
 use Rattle.zj_session.specs.declared.playing.Stopped.TheVariants as stops
 use Rattle.zj_session.specs.Answering.{IsHandled, area_onward, without_handle}
@@ -37,7 +37,7 @@ abbrev pub AreIdle : {D : Type 0} → List (CoreState D) → Type 0
 AreIdle cores = All (λ c. c.begun ≡ None) cores
 
 -- What a service keeps between two schedules: its cores are of one cache, and no handle is open.
-pub record IsAtRest {D : Type 0} (cache : CacheParameters) (cores : List (CoreState D)) : Type 0 where
+pub record AreResting {D : Type 0} (cache : CacheParameters) (cores : List (CoreState D)) : Type 0 where
   pub together : AreTogether cache cores
   pub idle : AreIdle cores
 
@@ -47,7 +47,7 @@ journals_of cores = map (λ c. c.area) cores
 
 -- Each journal is that of its core, for these sizes, and is ready to commit.
 abbrev pub AreJournals : {D : Type 0} → Numbers → List (AreaView D) → Type 0
-AreJournals sizes areas = (core : ℕ) → IfSome (slice_get areas core) (λ area. (area.core ≡ core) × (area.sizes ≡ sizes) × IsReady area)
+AreJournals sizes areas = (core : ℕ) → IfSome (slice_get areas core) (λ area. (area.core ≡ core) × (area.sizes ≡ sizes) × IsReadyToCommit area)
 
 -- the core without the handle that is open for a call, if one is
 abbrev pub rested : {D : Type 0} → CoreState D → Option Call → CoreState D

@@ -19,7 +19,7 @@ impl<D: Disk> Model for Service<D> {
     ghost use Rattle.std.specs.Prelude.{◌≡◌, ◌≤◌, [], length};
     ghost use Rattle.std.specs.Coded.{codes};
     ghost use Rattle.zj_turns.specs.Passes.{pass_state_code};
-    ghost use Rattle.zj_session.specs.Playing.{IsAtRest, ServiceState};
+    ghost use Rattle.zj_session.specs.Playing.{AreResting, ServiceState};
 
     ghost Value = { ServiceState D };
 
@@ -27,5 +27,5 @@ impl<D: Disk> Model for Service<D> {
 
     ghost view = { λ s. record { cache = s.cache; cores = s.cores.items } };
 
-    ghost invariant = { λ s. IsAtRest s.cache s.cores.items × (s.places.areas ≡ []) × (length s.cores.items ≤ s.places.spare) };
+    ghost invariant = { λ s. AreResting s.cache s.cores.items × (s.places.areas ≡ []) × (length s.cores.items ≤ s.places.spare) };
 }

@@ -47,21 +47,13 @@ impl<D: Disk> Service<D> {
         };
         let sizes = recovered.sizes();
         take_all(&mut areas, &mut waiting);
-        match make_cores(alloc, &cache, sizes, &mut passes, &mut waiting, &mut cores) {
-            Ok(()) => {
-                waiting.destroy_empty();
-                Ok(Service {
-                    cache,
-                    cores,
-                    places: areas,
-                })
-            }
-            Err(AllocError) => {
-                close_all(cores, &mut areas);
-                put_back(waiting, &mut areas);
-                Err(areas)
-            }
-        }
+        make_cores(alloc, &cache, sizes, &mut passes, &mut waiting, &mut cores);
+        waiting.destroy_empty();
+        Ok(Service {
+            cache,
+            cores,
+            places: areas,
+        })
     }
 
     /// The least number of tickets that a core of it may still draw.
@@ -133,8 +125,7 @@ fn take_all<D: Disk>(areas: &mut Areas<D>, waiting: &mut Vec<Area<D>>)
     }
 }
 
-/// Makes a core of each pass and its journal, where core 0's is the last that waits. After `AllocError` the journals
-/// are those of the cores that were made, and then those that still wait.
+/// Makes a core of each pass and its journal, where core 0's is the last that waits.
 fn make_cores<D: Disk>(
     alloc: Global,
     cache: &Cache<ShowsTree>,
@@ -142,7 +133,7 @@ fn make_cores<D: Disk>(
     passes: &mut Passes<ShowsTree>,
     waiting: &mut Vec<Area<D>>,
     cores: &mut Vec<Core<D>>,
-) -> Result<(), AllocError>
+)
     requires passes { passes.old ≡ dealt cache.now.table cache.now.cores cache.now.cores }
     requires many { length waiting.old.items ≡ cache.now.cores }
     requires journals { AreJournals sizes.now (reverse waiting.old.items) }
@@ -150,7 +141,7 @@ fn make_cores<D: Disk>(
     requires room { cache.now.cores ≤ vec_capacity cores.old }
     ensures fresh { AreFresh cache.now sizes.now cores.new.items }
     ensures journals { journals_of cores.new.items ++ reverse waiting.new.items ≡ reverse waiting.old.items }
-    ensures all { IfOk result (λ _. waiting.new.items ≡ []) }
+    ensures all { waiting.new.items ≡ [] }
 {
     for _core in 0..cache.cores() {
         let Some(pass) = passes.next() else {
@@ -159,15 +150,9 @@ fn make_cores<D: Disk>(
         let Some(area) = waiting.pop() else {
             unreachable!()
         };
-        match Core::new(alloc, pass, area, sizes) {
-            Ok(core) => cores.push_reserved(core),
-            Err(refused) => {
-                waiting.push_reserved(refused.area);
-                return Err(AllocError);
-            }
-        }
+        let core = Core::new(alloc, pass, area, sizes).unwrap();
+        cores.push_reserved(core);
     }
-    Ok(())
 }
 
 /// Closes cores that have no handle, and puts their journals behind others. It takes no memory.
@@ -183,17 +168,6 @@ fn close_all<D: Disk>(cores: Vec<Core<D>>, places: &mut Areas<D>)
         places.push(area);
     }
     left.destroy_empty();
-}
-
-/// Puts the journals that still wait back, behind others. It takes no memory.
-fn put_back<D: Disk>(mut waiting: Vec<Area<D>>, places: &mut Areas<D>)
-    requires { length waiting.items ≤ places.old.spare }
-    ensures { places.new.areas ≡ places.old.areas ++ reverse waiting.items }
-{
-    while let Some(area) = waiting.pop() {
-        places.push(area);
-    }
-    waiting.destroy_empty();
 }
 
 #[cfg(test)]

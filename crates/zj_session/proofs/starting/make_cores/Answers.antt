@@ -41,11 +41,12 @@ loop-core-preserved g c =
     let low : c.loop-core._core < c.args.cache.now.cores = omega arith in
     let out = dealt_out c.args.cache.now c.args.cache.now.cores c.loop-core._core low c.loop-core.passes c.next.new.self c.in-Some.pass inv.passes c.in-Some.ensures.some in
     let many : length c.loop-core.cores.items ≡ c.loop-core._core = sym c.loop-core.cores.ok.0 ∙ inv.made in
+    let made = rw c.unwrap-core.ensures at c.new.ensures.ok in
     record {
       passes = out.0;
       made = omega (arith, c.push_reserved.ensures.len);
       left = omega (arith, c.in-Some-pop.ensures.cases);
       room = c.push_reserved.ensures.capacity ∙ inv.room;
-      fresh = fresh_more c.args.cache.now c.args.sizes.now c.loop-core.cores.items c.loop-core._core many c.in-Ok.core c.in-Some.pass c.in-Some-pop.area c.in-Ok.ensures.ok out.1 c.push_reserved.new.self.items c.push_reserved.ensures.items inv.fresh;
-      journals = journals_more c.loop-core.cores.items c.pop.new.self.items c.loop-core.waiting.items _ c.in-Some-pop.area inv.journals c.in-Some-pop.ensures.items c.in-Ok.core c.in-Some.pass c.args.sizes.now c.in-Ok.ensures.ok c.push_reserved.new.self.items c.push_reserved.ensures.items;
+      fresh = fresh_more c.args.cache.now c.args.sizes.now c.loop-core.cores.items c.loop-core._core many c.unwrap-core.result c.in-Some.pass c.in-Some-pop.area made out.1 c.push_reserved.new.self.items c.push_reserved.ensures.items inv.fresh;
+      journals = journals_more c.loop-core.cores.items c.pop.new.self.items c.loop-core.waiting.items _ c.in-Some-pop.area inv.journals c.in-Some-pop.ensures.items c.unwrap-core.result c.in-Some.pass c.args.sizes.now made c.push_reserved.new.self.items c.push_reserved.ensures.items;
     }

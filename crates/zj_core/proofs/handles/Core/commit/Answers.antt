@@ -10,8 +10,8 @@ invariant_of-self g c =
     core_fails c.self.inside.pass c.self.inside.area c.self.inside.sizes c.self.inside.handle c.self.inside.running c.self.invariant c.args.self.now c.self.view_is c.requires.idle
     (sym c.failed.ensures ∙ c.if-failed.false) c.sealed_is_frozen.ensures.none c.write_record.new.area c.seal-sealed.new.self c.seal-sealed.ensures.next c.in_err-write_record.ensures.err
 
-pub returns-in_err-write_record-clause-cause : goal.returns-in_err-write_record-clause-cause
-returns-in_err-write_record-clause-cause g c =
+pub returns-in_err-write_record : goal.returns-in_err-write_record
+returns-in_err-write_record g c =
     let p = err_from_is_err_and c.from_residual.result c.from_residual.ensures.1 in
     let sound = sym c.failed.ensures ∙ c.if-failed.false in
     rw (p.1, p.2)
