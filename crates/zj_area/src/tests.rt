@@ -111,7 +111,7 @@ fn told(rt: &impl Abort, alloc: Global, answer: Result<Found, ScanFault>, end: T
 fn scanned(rt: &impl Abort, alloc: Global, bytes: &[u8], tail: Tail, stop: Option<u64>) -> String {
     let mut area = area_on(rt, alloc, disk(rt, alloc, bytes, stop), tail);
     let answer = area.scan();
-    assert_eq!(rt; area.ready(), answer.is_ok());
+    assert!(rt; area.ready() == answer.is_ok());
     told(rt, alloc, answer, area.end())
 }
 
@@ -122,13 +122,13 @@ fn a_new_area_was_not_read(rt: HostRuntime) {
     let bytes = filled(&rt, rt.alloc(), 0, 50_752);
     let disk = disk(&rt, rt.alloc(), &bytes, None);
     let area = area_on(&rt, rt.alloc(), disk, tail);
-    assert_eq!(rt; area.core(), 0);
+    assert!(rt; area.core() == 0);
     assert!(rt; area.tail() == tail);
     assert!(rt; area.end() == tail);
     assert!(rt; !area.ready());
     assert!(rt; !area.laid());
     assert!(rt; !area.failed());
-    assert_eq!(rt; area.into_device().calls(), 0);
+    assert!(rt; area.into_device().calls() == 0);
 }
 
 /// What a journal tells of its records.

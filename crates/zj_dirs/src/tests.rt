@@ -185,7 +185,7 @@ fn an_entry_is_added_last(rt: HostRuntime) {
 16 3
 17 3
 191 13";
-    assert_eq!(rt; lines.lines().count(), 6);
+    assert!(rt; lines.lines().count() == 6);
     for line in lines.lines() {
         adds(&rt, rt.alloc(), line);
     }
@@ -197,17 +197,16 @@ fn adds(rt: &impl Abort, alloc: Global, line: &str) {
     let sizes = sizes(rt, 64, 8);
     let mut blocks = root_with(rt, alloc, &sizes, entries);
     let (change, _) = add(rt, alloc, &sizes, &mut blocks, &link(rt, b"new", 5));
-    assert_eq!(rt; change, Change::Done, "{line}");
+    assert!(rt; change == Change::Done, "{line}");
     let node = root(rt, &blocks, 1);
-    assert_eq!(rt; Some(node.size), entries.checked_add(1), "{line}");
-    assert_eq!(rt;
-        node.blocks.get((entries / 16) as usize),
-        Some(&block),
+    assert!(rt; Some(node.size) == entries.checked_add(1), "{line}");
+    assert!(rt;
+        node.blocks.get((entries / 16) as usize) == Some(&block),
         "{line}"
     );
     assert!(rt; in_use(rt, &blocks, block), "{line}");
     let added = link_at(&content(rt, &blocks, block), entries % 16).expect(rt, line);
-    assert_eq!(rt; added.node, 5, "{line}");
+    assert!(rt; added.node == 5, "{line}");
     assert_eq!(rt; added.name.as_slice(), b"new".as_slice(), "{line}");
 }
 
@@ -249,7 +248,7 @@ fn the_last_entry_moves_into_the_hole(rt: HostRuntime) {
 17 16 4 1
 18 17 3 0
 192 100 9 0";
-    assert_eq!(rt; lines.lines().count(), 8);
+    assert!(rt; lines.lines().count() == 8);
     for line in lines.lines() {
         removes(&rt, rt.alloc(), line);
     }
@@ -263,14 +262,14 @@ fn removes(rt: &impl Abort, alloc: Global, line: &str) {
     let mut blocks = root_with(rt, alloc, &sizes, entries);
     let name = link(rt, &letters(place), 1).name;
     let (change, count) = drop_entry(rt, alloc, &sizes, &mut blocks, &name);
-    assert_eq!(rt; change, Change::Done, "{line}");
-    assert_eq!(rt; count, number(rt, line, 2) as usize, "{line}");
+    assert!(rt; change == Change::Done, "{line}");
+    assert!(rt; count == number(rt, line, 2) as usize, "{line}");
     let node = root(rt, &blocks, 1);
-    assert_eq!(rt; Some(node.size), entries.checked_sub(1), "{line}");
+    assert!(rt; Some(node.size) == entries.checked_sub(1), "{line}");
     let last = node.size / 16;
-    assert_eq!(rt; in_use(rt, &blocks, 2 + last), !freed, "{line}");
+    assert!(rt; in_use(rt, &blocks, 2 + last) == !freed, "{line}");
     let number = *node.blocks.get(last as usize).expect(rt, line);
-    assert_eq!(rt; number == 0, freed, "{line}");
+    assert!(rt; (number == 0) == freed, "{line}");
     if place < node.size {
         let content = content(rt, &blocks, 2 + place / 16);
         let moved = link_at(&content, place % 16).expect(rt, line);
@@ -334,12 +333,12 @@ fn a_path_leads_to_a_node(rt: HostRuntime) {
 /d/d/x 4 notfound
 /d/d/d/d/d 5 notdir
 /x/d/d 2 notfound";
-    assert_eq!(rt; lines.lines().count(), 6);
+    assert!(rt; lines.lines().count() == 6);
     let sizes = sizes(&rt, 64, 8);
     let blocks = nested(&rt, rt.alloc(), &sizes, 4);
     for line in lines.lines() {
         let led = walks(&rt, rt.alloc(), &sizes, &blocks, line);
-        assert_eq!(rt; led, expected(&rt, line), "{line}");
+        assert!(rt; led == expected(&rt, line), "{line}");
     }
 }
 
@@ -349,7 +348,7 @@ fn a_path_of_16_names_leads_to_a_node(rt: HostRuntime) {
     let blocks = nested(&rt, rt.alloc(), &sizes, 16);
     let line = "/d/d/d/d/d/d/d/d/d/d/d/d/d/d/d/d 18";
     let led = walks(&rt, rt.alloc(), &sizes, &blocks, line);
-    assert_eq!(rt; led, Walk::Found { node: 16 });
+    assert!(rt; led == Walk::Found { node: 16 });
 }
 
 fn lowest_node(sizes: &Sizes, taken: &Taken, written: &Written) -> Result<Option<u32>, Stop>

@@ -50,7 +50,7 @@ fn commit(rt: &impl Abort, alloc: Global, area: &mut Area<MemDisk>) -> &'static 
         Ok(()) => match area.open_gate() {
             Err(DiskFault) => "laid",
             Ok(number) => {
-                assert_eq!(rt; number, 0);
+                assert!(rt; number == 0);
                 "committed"
             }
         },
@@ -80,7 +80,7 @@ fn stopped(rt: &impl Abort, alloc: Global, bytes: &[u8], line: &str) -> MemDisk 
     let mut area = area_on(rt, alloc, disk, START);
     assert!(rt; area.scan().is_ok());
     assert_eq!(rt; commit(rt, alloc, &mut area), word(rt, line, 1), "{line}");
-    assert_eq!(rt; area.failed(), after < 5);
+    assert!(rt; area.failed() == (after < 5));
     area.into_device()
 }
 
@@ -94,7 +94,7 @@ fn a_commit_that_stops_leaves_the_record_whole_or_not_at_all(rt: HostRuntime) {
 3 laid 0 0 1 0
 4 laid 0 1 1 0
 5 committed 1 1 1 1";
-    assert_eq!(rt; lines.lines().count(), 6);
+    assert!(rt; lines.lines().count() == 6);
     for line in lines.lines() {
         stops(&rt, rt.alloc(), 0, line);
         stops(&rt, rt.alloc(), 1, line);
@@ -118,7 +118,7 @@ fn a_scan_after_a_failed_commit_tells_the_end(rt: HostRuntime) {
     let lines = "1 nothing: 0 to 0 0
 3 laid: 0 to 0 0
 4 laid: 1 to 32 1";
-    assert_eq!(rt; lines.lines().count(), 3);
+    assert!(rt; lines.lines().count() == 3);
     for line in lines.lines() {
         fails(&rt, rt.alloc(), line);
     }
@@ -153,7 +153,7 @@ fn a_commit_moves_the_end(rt: HostRuntime) {
     assert!(rt; lay(&rt, rt.alloc(), &mut area, 3).is_ok());
     assert!(rt; area.laid());
     assert!(rt; area.end() == START && !area.failed());
-    assert_eq!(rt; area.open_gate(), Ok(0));
+    assert!(rt; area.open_gate() == Ok(0));
     let (place, number) = (1_616, 1);
     assert!(rt; area.end() == Tail { place, number } && !area.laid() && !area.failed());
     assert!(rt; area.settle().is_ok());
