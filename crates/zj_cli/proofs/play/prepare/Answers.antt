@@ -16,3 +16,6 @@ returns-in_err-schedule-clause-cause g c =
     let mounted = c.in_ok-recovered in
     let cores = c.cores.ensures.value ∙ ap (λ (n : Numbers). n.cores) (c.sizes.ensures ∙ mounted.ensures.sizes) in
     rw (p.1, p.2) (inl (mounted.recovered.blocks, mounted.recovered.tree.tree, mounted.ensures.tree, input_refused c.args.home.now.told.sizes.cores _ _ _ _ c.in_ok-text.text.items _ (rw (cores, c.deref.ensures.value) at c.in_err-schedule.ensures.err) c.in_ok-text.ensures.ok))
+
+pub returns-clause-settled : goal.returns-clause-settled
+returns-clause-settled g c = c.in_ok-recovered.ensures.settled.home_rests
