@@ -4,8 +4,9 @@ use Rattle.zj_block.specs.Lists.{Entries}
 use Rattle.zj_block.specs.Sizes.{Numbers, map_blocks, node_blocks}
 use Rattle.zj_layout.specs.declared.fields.Kind.TheVariants as kinds
 use Rattle.zj_layout.specs.Graph.{link_at, step}
-use Rattle.zj_layout.specs.Node.{byte_in}
+use Rattle.zj_layout.specs.Node.{byte_in, node_in}
 use Rattle.zj_layout.specs.declared.fields.Link.{Link}
+use Rattle.zj_layout.specs.declared.fields.Node.{Node}
 use Rattle.zj_layout.specs.Image.{Image, entry_at, graph_of, node_of}
 use Rattle.zj_layout.specs.Shows.{Changes}
 use Rattle.zj_dirs.specs.declared.answers.Entry as entries
@@ -41,6 +42,13 @@ FindSays sizes found written dir name answers.Odd = IsOdd sizes found
 abbrev pub IsLowestNode : Numbers → Image → Option ℕ → Type 0
 IsLowestNode sizes image (Some number) = (number < sizes.nodes) × ((node_of image number).kind ≡ kinds.Free) × ((lower : ℕ) → lower < number → (node_of image lower).kind ≢ kinds.Free)
 IsLowestNode sizes image None = (number : ℕ) → number < sizes.nodes → (node_of image number).kind ≢ kinds.Free
+
+-- the node at a place of a block is free, or is not
+abbrev pub IsFreeAt : List ℕ → ℕ → Type 0
+IsFreeAt content place = (node : Node) → node_in content place ≡ Some node → node.kind ≡ kinds.Free
+
+abbrev pub IsUsedAt : List ℕ → ℕ → Type 0
+IsUsedAt content place = (node : Node) → node_in content place ≡ Some node → node.kind ≢ kinds.Free
 
 -- a block of nodes, where no node of the blocks before it is free
 abbrev pub IsNodeSearch : Numbers → Image → ℕ → Type 0

@@ -1,11 +1,11 @@
 //! The lowest free node and the lowest free block, over blocks that were taken, with the written ones put in.
 
-ghost use Rattle.std.specs.Prelude.{◌≡◌, ◌<◌, ◌≤◌, ◌↔◌, IfOk, IfErr, IfSome, IsTrue, Some};
+ghost use Rattle.std.specs.Prelude.{◌≡◌, ◌<◌, ◌≤◌, ◌↔◌, ℕ, IfOk, IfErr, IfNone, IfSome, IsTrue, Some};
 ghost use Rattle.zj_layout.specs.declared.fields.Kind.TheVariants as kinds;
 ghost use Rattle.zj_layout.specs.declared.fields.Node.{Node};
 ghost use Rattle.zj_layout.specs.Node.{byte_in, node_in};
 ghost use Rattle.zj_layout.specs.Stored.{IsStored};
-ghost use Rattle.zj_dirs.specs.Looking.{IsLowestBlock, IsLowestNode, IsLowestZero, IsMapSearch, IsNodeSearch};
+ghost use Rattle.zj_dirs.specs.Looking.{IsFreeAt, IsLowestBlock, IsLowestNode, IsLowestZero, IsMapSearch, IsNodeSearch, IsUsedAt};
 ghost use Rattle.zj_dirs.specs.Possible.{Made, Stops, StopsWithin};
 
 use crate::answers::Stop;
@@ -20,16 +20,31 @@ pub fn free_node(sizes: &Sizes, taken: &Taken, written: &Written) -> Result<Opti
     ensures stop { IfErr result (Stops sizes.now taken.now written.now (IsNodeSearch sizes.now)) }
     ensures within { IfErr result (StopsWithin sizes.now) }
 {
-    for number in 0..sizes.nodes() {
-        let block = BlockNo(sizes.map_blocks() + number / NODES_PER_BLOCK);
+    for k in 0..sizes.node_blocks() {
+        let block = BlockNo(sizes.map_blocks() + k);
         let Some(content) = seen(block, taken, Some(written)) else {
             return Err(Stop::Need(block));
         };
-        if is_free(content, number % NODES_PER_BLOCK) {
-            return Ok(Some(number));
+        match free_place(content) {
+            Some(place) => return Ok(Some(k * NODES_PER_BLOCK + place)),
+            None => {}
         }
     }
     Ok(None)
+}
+
+// The lowest place of a node block at which a node is free, if one is.
+fn free_place(content: &Block) -> Option<u32>
+    ensures some { IfSome result (λ place. (place < 8) × IsFreeAt content.now place) }
+    ensures lower { IfSome result (λ place. (lower : ℕ) → lower < place → IsUsedAt content.now lower) }
+    ensures none { IfNone result ((place : ℕ) → place < 8 → IsUsedAt content.now place) }
+{
+    for place in 0..NODES_PER_BLOCK {
+        if is_free(content, place) {
+            return Some(place);
+        }
+    }
+    None
 }
 
 // Whether the node at a place of a block is free, told by the number of its kind alone.
