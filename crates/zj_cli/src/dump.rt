@@ -2,12 +2,14 @@
 
 ghost use Rattle.std.specs.Prelude.{◌≡◌, ◌≤◌, ◌++◌, IfOk, IfSome, OnOk, cond, slice_get};
 ghost use Rattle.std.specs.FinMap as map_of;
+ghost use Rattle.zj_script.specs.Entries.{entry_text};
+ghost use Rattle.zj_tree.specs.Entry.{entry_content};
 ghost use Rattle.zj_tree.specs.Tree.{entry_count, is_in};
 ghost use Rattle.zj_cli.specs.Check.{line_of, tree_text};
 
 use std::alloc::{AllocError, Global};
 use zj_script::write_entry;
-use zj_tree::{Bytes, Name, Tree};
+use zj_tree::{Bytes, Entry, Name, Tree};
 
 /// Whether a path lies in a directory, one name below it.
 fn is_in(dir: &[Name], path: &[Name]) -> bool
@@ -41,6 +43,16 @@ fn entry_count(tree: &Tree, dir: &[Name]) -> u64
     count
 }
 
+/// How many entries the line of an entry tells: those of a directory. The line of a file tells none.
+fn entries_told(tree: &Tree, path: &[Name], content: &Entry<'_>) -> u64
+    ensures { entry_text path.now (entry_content content.now) result ≡ entry_text path.now (entry_content content.now) (entry_count tree.now.tree path.now) }
+{
+    match content {
+        Entry::Dir => entry_count(tree, path),
+        Entry::File(_) => 0,
+    }
+}
+
 /// Adds the line of the entry with this place, if there is one.
 fn put_at(tree: &Tree, i: usize, text: &mut Bytes) -> Result<(), AllocError>
     ensures { OnOk result (IfSome (slice_get (map_of.entries tree.now.tree) i) (λ entry. text.new ≡ text.old ++ line_of tree.now.tree entry)) }
@@ -48,7 +60,7 @@ fn put_at(tree: &Tree, i: usize, text: &mut Bytes) -> Result<(), AllocError>
     let Some((path, content)) = tree.at(i) else {
         return Ok(());
     };
-    let entries = entry_count(tree, path.as_slice());
+    let entries = entries_told(tree, path.as_slice(), &content);
     write_entry(path, content, entries, text)
 }
 
