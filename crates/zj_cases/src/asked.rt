@@ -2,7 +2,7 @@
 
 use crate::shelf::CaseShelf;
 use crate::step::Step;
-use crate::text::{put_input, unspelled};
+use crate::text::{put_letters_in, unspelled};
 use crate::trouble::{Outcome, differs};
 use std::alloc::{AllocError, Global};
 use zj_cli::{Phase, PhaseKind, Status, zj_tool};
@@ -47,15 +47,15 @@ impl<'a> Expected<'a> {
         let (word, rest) = line.split_once(' ').unwrap_or((line, ""));
         match word {
             "<" => {
-                put_input(alloc, rest, &mut self.input)?;
+                put_letters_in(alloc, rest, &mut self.input)?;
                 self.input.push('\n')?;
             }
-            "<<" => put_input(alloc, rest, &mut self.input)?,
+            "<<" => put_letters_in(alloc, rest, &mut self.input)?,
             ">" => {
-                self.output.push_str(rest)?;
+                put_letters_in(alloc, rest, &mut self.output)?;
                 self.output.push('\n')?;
             }
-            ">>" => self.output.push_str(rest)?,
+            ">>" => put_letters_in(alloc, rest, &mut self.output)?,
             "=" => self.ends.push(rest)?,
             "phases" => self.phases = Some(rest),
             "phase" => self.spans.push(rest)?,
@@ -203,7 +203,10 @@ fn compare_count(alloc: Global, expected: &Expected<'_>, came: &Came) -> Outcome
 /// Compares the phases that a call told, as far as they are said.
 fn compare_spans(alloc: Global, expected: &Expected<'_>, came: &Came) -> Outcome<()> {
     for (place, due) in expected.spans.iter().enumerate() {
-        let told = came.phases.get(place).map_or("none", |phase| phase.as_str());
+        let told = came
+            .phases
+            .get(place)
+            .map_or("none", |phase| phase.as_str());
         if told != *due {
             return differs(format!(in alloc; "expected the phase {due}, came {told}"));
         }

@@ -1,14 +1,17 @@
 //! What a case has come to, and its steps.
 
-use crate::asked::{Came, Expected, call_tool, compare_end, compare_output, compare_rest, printed, words_of};
-use crate::devices::{calls_of, crashed, image_of, overwrite, put_device, stands, torn_of, write_device};
+use crate::asked::{
+    Came, Expected, call_tool, compare_end, compare_output, compare_rest, printed, words_of,
+};
+use crate::devices::{
+    calls_of, crashed, image_of, overwrite, put_device, stands, torn_of, write_device,
+};
 use crate::past::{Past, tallies_of};
 use crate::shelf::CaseShelf;
 use crate::step::Step;
 use crate::text::{bytes_from, number_at, numbers_from, word_at};
 use crate::trouble::{Outcome, differs};
 use std::alloc::{AllocError, Global};
-
 use zj_dev::Torn;
 
 /// A run of the steps of a case, which may be one of several.
@@ -150,14 +153,10 @@ impl Bench {
     }
 
     /// Notes what a call did.
-    fn note_call(
-        &mut self,
-        words: &[String],
-        expected: &Expected<'_>,
-        came: &Came,
-    ) -> Outcome<()> {
+    fn note_call(&mut self, words: &[String], expected: &Expected<'_>, came: &Came) -> Outcome<()> {
         if is_command(words, "play") {
-            self.past.play(expected.input.as_str(), came.output.as_str())
+            self.past
+                .play(expected.input.as_str(), came.output.as_str())
         } else if is_command(words, "make") {
             self.past.make(words)
         } else {
@@ -259,9 +258,9 @@ impl Bench {
             return Ok(());
         }
         let number = self.turn.number;
-        differs(
-            format!(in self.alloc; "run {number}, {torn:?}: expected {due:?}, came {dumped:?} of {checked:?}"),
-        )
+        differs(format!(in self.alloc;
+            "run {number}, {torn:?}: expected {due:?}, came {dumped:?} of {checked:?}"
+        ))
     }
 
     // Devices.
@@ -326,7 +325,11 @@ impl Bench {
     fn compare_kept(&mut self, name: &str) -> Outcome<()> {
         let lost = image_of(self.alloc, &mut self.shelf, name, Torn::Lost)?;
         let whole = image_of(self.alloc, &mut self.shelf, name, Torn::Whole)?;
-        let kept = self.notes.iter().rev().find(|note| note.name.as_str() == name);
+        let kept = self
+            .notes
+            .iter()
+            .rev()
+            .find(|note| note.name.as_str() == name);
         match kept {
             Some(note) if note.lost == lost && note.whole == whole => Ok(()),
             Some(_) => differs(format!(in self.alloc; "{name} has other bytes than were kept")),
@@ -339,7 +342,9 @@ impl Bench {
         let at = number_at(self.alloc, words, 2)?;
         let due = bytes_from(self.alloc, words, 3)?;
         let bytes = image_of(self.alloc, &mut self.shelf, name, Torn::Lost)?;
-        let behind = bytes.split_at_checked(at as usize).map_or([].as_slice(), |parts| parts.1);
+        let behind = bytes
+            .split_at_checked(at as usize)
+            .map_or([].as_slice(), |parts| parts.1);
         if behind.starts_with(&due) {
             return Ok(());
         }

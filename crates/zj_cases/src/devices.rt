@@ -17,12 +17,7 @@ fn taken(alloc: Global, shelf: &mut CaseShelf, name: &str) -> Outcome<MemDisk> {
 }
 
 /// What a crash leaves of a device.
-pub fn image_of(
-    alloc: Global,
-    shelf: &mut CaseShelf,
-    name: &str,
-    torn: Torn,
-) -> Outcome<Vec<u8>> {
+pub fn image_of(alloc: Global, shelf: &mut CaseShelf, name: &str, torn: Torn) -> Outcome<Vec<u8>> {
     let disk = taken(alloc, shelf, name)?;
     let image = disk.image(alloc, torn)?;
     shelf.put(name, disk)?;

@@ -1,8 +1,8 @@
 //! What was played on an image: the calls and the transactions that they are part of, and the tree that is recovered of them.
 
 use crate::text::number_of;
-use crate::trouble::{Outcome, differs};
 use crate::tree::tree_text;
+use crate::trouble::{Outcome, differs};
 use std::alloc::{AllocError, Global};
 use zj_block::{Sizes, VERSION};
 
@@ -137,7 +137,10 @@ impl Past {
     fn answer(&mut self, lines: &[&str], answer: &str) -> Outcome<()> {
         let mut words = answer.splitn(4, ' ');
         let number = number_of(self.alloc, words.next().unwrap_or(""))?;
-        let line = lines.get((number as usize).wrapping_sub(1)).copied().unwrap_or("");
+        let line = lines
+            .get((number as usize).wrapping_sub(1))
+            .copied()
+            .unwrap_or("");
         let core = number_of(self.alloc, words.next().unwrap_or(""))? as usize;
         let (first, rest) = (words.next().unwrap_or(""), words.next().unwrap_or(""));
         let act = line.split_once(' ').map_or("", |parts| parts.1);
@@ -205,9 +208,9 @@ impl Past {
             let found = tallies.get(core).map_or(0, |tally| tally.found);
             let due = running.committed;
             if found < due {
-                return differs(
-                    format!(in self.alloc; "core {core} committed up to {due}, found up to {found}"),
-                );
+                return differs(format!(in self.alloc;
+                    "core {core} committed up to {due}, found up to {found}"
+                ));
             }
         }
         Ok(())

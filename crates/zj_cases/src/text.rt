@@ -97,8 +97,8 @@ fn put_letters(count: u64, text: &mut String) -> Result<(), AllocError> {
     Ok(())
 }
 
-/// Adds a line of input, in which `A(6144)` stands for so many letters A.
-pub fn put_input(alloc: Global, line: &str, text: &mut String) -> Outcome<()> {
+/// Adds a line, in which `A(6144)` stands for so many letters A.
+pub fn put_letters_in(alloc: Global, line: &str, text: &mut String) -> Outcome<()> {
     match line.split_once("A(") {
         None => text.push_str(line)?,
         Some((front, rest)) => {

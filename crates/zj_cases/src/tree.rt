@@ -48,7 +48,9 @@ fn apply(alloc: Global, tree: &mut Tree, drawn: &Drawn) -> Outcome<()> {
         return Ok(());
     }
     let call = drawn.call.as_str();
-    differs(format!(in alloc; "{call} was replied to as {given:?}, and among those kept it is {due:?}"))
+    differs(format!(in alloc;
+        "{call} was replied to as {given:?}, and among those kept it is {due:?}"
+    ))
 }
 
 /// How many entries a directory of a tree has.
