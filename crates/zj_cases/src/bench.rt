@@ -1,32 +1,18 @@
 //! What a case has come to, and its steps.
 
-use crate::asked::{
-    Came, Expected, call_tool, compare_end, compare_output, compare_rest, printed, words_of,
-};
-use crate::devices::{
-    calls_of, crashed, image_of, overwrite, put_device, stands, torn_of, write_device,
-};
-use crate::past::{Past, tallies_of};
+use crate::asked::{Came, call_tool, compare_end, compare_rest, printed};
+use crate::device_steps::{change, fail_from};
+use crate::devices::{crashed, image_of, torn_of};
+use crate::past::{Past, Replay, tallies_of};
 use crate::shelf::CaseShelf;
-use crate::step::Step;
-use crate::text::{bytes_from, number_at, numbers_from, word_at};
-use crate::trouble::{Outcome, differs};
+use crate::step::{Step, told};
+use crate::text::{command_line, numbers_from, word_at};
+use crate::trouble::{Outcome, compare, compare_number, differs, joined};
 use std::alloc::{AllocError, Global};
-use zj_dev::Torn;
+use zj_dev::{MemSink, MemSource, Torn};
 
-/// A run of the steps of a case, which may be one of several.
-#[derive(Clone, Copy, Debug)]
-pub struct Turn {
-    /// The number of the run: the call that fails in it, or from which on all do.
-    pub number: u64,
-    /// Whether the steps are run again as long as a call of the tool meets a fault.
-    pub repeats: bool,
-    /// Whether a call of the tool met a fault, where the steps are run again.
-    pub failed: bool,
-}
-
-/// What a device held.
-#[derive(Debug, Drop)]
+/// What a device held: after a crash that loses what is pending, and after one that keeps it.
+#[derive(Drop)]
 struct Note {
     name: String,
     lost: Vec<u8>,
@@ -34,15 +20,82 @@ struct Note {
 }
 
 /// What a case has come to.
-#[derive(Debug, Drop)]
+#[derive(Drop)]
 pub struct Bench {
     alloc: Global,
     shelf: CaseShelf,
     notes: Vec<Note>,
+    /// The calls that fail of the streams of the next call of the tool.
     reads: Vec<u64>,
     writes: Vec<u64>,
+    /// What was played on the image that these words made.
     past: Past,
-    turn: Turn,
+    made: String,
+    /// The number of the run: the call that fails in it, or from which on all do.
+    number: u64,
+    /// Whether the steps are run again as long as a call of the tool meets a fault, and whether one did.
+    repeats: bool,
+    failed: bool,
+}
+
+/// What a device holds.
+fn note_of(alloc: Global, shelf: &mut CaseShelf, name: &str) -> Outcome<Note> {
+    Ok(Note {
+        name: String::from_str(alloc, name)?,
+        lost: image_of(alloc, shelf, name, Torn::Lost)?,
+        whole: image_of(alloc, shelf, name, Torn::Whole)?,
+    })
+}
+
+/// Whether two notes tell the same of a device.
+fn is_same(one: &Note, other: &Note) -> bool {
+    one.name.as_str() == other.name.as_str()
+        && one.lost.as_slice() == other.lost.as_slice()
+        && one.whole.as_slice() == other.whole.as_slice()
+}
+
+/// Notes what a mount finds on a shelf of what was played.
+fn note_mount(alloc: Global, shelf: &mut CaseShelf, past: &mut Past) -> Outcome<()> {
+    let mut left = crashed(alloc, shelf, Torn::Whole)?;
+    match printed(alloc, &mut left, "zj check", "") {
+        Ok(checked) => past.mount(alloc, &tallies_of(alloc, checked.as_str())?),
+        Err(_) => Ok(()),
+    }
+}
+
+/// What `dump` prints of a new image of one core, as large as the one that some words made, on which lines are played that are to be
+/// answered so.
+fn replayed(alloc: Global, made: &str, replay: &Replay) -> Outcome<String> {
+    let mut shelf = CaseShelf::new(alloc)?;
+    let words: Vec<&str> = made.split(' ').collect(alloc)?;
+    let (blocks, nodes) = (word_at(&words, 2), word_at(&words, 3));
+    let make = joined(alloc, &["zj make ", blocks, " ", nodes, " 1 262144"])?;
+    let _made = printed(alloc, &mut shelf, make.as_str(), "")?;
+    let played = printed(alloc, &mut shelf, "zj play", replay.lines.as_str())?;
+    compare(
+        alloc,
+        "of the calls that are kept",
+        replay.answers.as_str(),
+        played.as_str(),
+    )?;
+    printed(alloc, &mut shelf, "zj dump", "")
+}
+
+/// Compares what is recovered after a crash with the tree of the calls in the transactions that are kept.
+fn compare_recovered(
+    alloc: Global,
+    shelf: &mut CaseShelf,
+    past: &Past,
+    made: &str,
+    torn: Torn,
+) -> Outcome<()> {
+    let mut left = crashed(alloc, shelf, torn)?;
+    let checked = printed(alloc, &mut left, "zj check", "")?;
+    let dumped = printed(alloc, &mut left, "zj dump", "")?;
+    let tallies = tallies_of(alloc, checked.as_str())?;
+    past.compare_found(alloc, &tallies)?;
+    let due = replayed(alloc, made, &past.replay(alloc, &tallies)?)?;
+    compare(alloc, checked.as_str(), due.as_str(), dumped.as_str())
 }
 
 impl Bench {
@@ -55,346 +108,153 @@ impl Bench {
             reads: Vec::new(alloc),
             writes: Vec::new(alloc),
             past: Past::new(alloc),
-            turn: Turn {
-                number,
-                repeats: false,
-                failed: false,
-            },
+            made: String::new(alloc),
+            number,
+            repeats: false,
+            failed: false,
         })
     }
 
     /// Whether the steps are to be run again, with the next call failing.
     pub fn goes_on(&self) -> bool {
-        self.turn.repeats && self.turn.failed
+        self.repeats && self.failed
     }
 
     /// Makes a step.
     pub fn make(&mut self, step: &Step<'_>) -> Outcome<()> {
         let words: Vec<&str> = step.text.split(' ').collect(self.alloc)?;
-        match word_at(self.alloc, &words, 0)? {
+        match word_at(&words, 0) {
             "case" => Ok(()),
-            "zj" => self.call(step),
-            "input" => self.fail_input(&words),
-            "output" => self.fail_output(&words),
-            "stuck" => self.stick(&words),
-            "crash" => self.crash(&words),
-            "each" => self.repeat(&words),
-            "count" => self.compare_turns(&words),
+            "zj" => self.call(step.text, &words, &step.below),
             "recovers" => self.recovers(),
-            _ => self.make_device_step(&words),
+            _ => self.make_rare(&words),
         }
     }
 
-    /// Makes a step that changes a device.
-    fn make_device_step(&mut self, words: &[&str]) -> Outcome<()> {
-        let name = word_at(self.alloc, words, 1)?;
-        match word_at(self.alloc, words, 0)? {
-            "device" => self.new_device(name, words),
-            "set" => self.set(name, words),
-            "cut" => self.cut(name, words),
-            "remove" => {
-                let _taken = self.shelf.take(name);
-                Ok(())
-            }
-            "fails" => self.fail_device(name, words),
-            "stops" => self.stop_device(name, words),
-            "writes" => self.write(name, words),
-            "keep" => self.keep(name),
-            _ => self.make_comparison(name, words),
+    /// Makes a step that isn't among the most frequent ones.
+    fn make_rare(&mut self, words: &[&str]) -> Outcome<()> {
+        match word_at(words, 0) {
+            "input" => self.reads = numbers_from(self.alloc, words, 2)?,
+            "output" => self.writes = numbers_from(self.alloc, words, 2)?,
+            "stuck" => self
+                .shelf
+                .stick(String::from_str(self.alloc, word_at(words, 1))?),
+            "crash" => self.crash(words)?,
+            "keep" => self.keep(word_at(words, 1))?,
+            "same" => self.compare_kept(word_at(words, 1))?,
+            "each" => self.repeat(words)?,
+            "count" => self.compare_count(words)?,
+            _ => change(self.alloc, &mut self.shelf, words)?,
         }
+        Ok(())
     }
-
-    /// Makes a step that compares what a device is.
-    fn make_comparison(&mut self, name: &str, words: &[&str]) -> Outcome<()> {
-        match word_at(self.alloc, words, 0)? {
-            "same" => self.compare_kept(name),
-            "holds" => self.compare_bytes(name, words),
-            "length" => self.compare_length(name, words),
-            "calls" => self.compare_calls(name, words),
-            "stands" => self.compare_standing(name, true),
-            "absent" => self.compare_standing(name, false),
-            "pending" => self.compare_pending(name, true),
-            "settled" => self.compare_pending(name, false),
-            word => differs(format!(in self.alloc; "no step: {word}")),
-        }
-    }
-
-    // Calls of the tool.
 
     /// Calls the tool, and compares what comes.
-    fn call(&mut self, step: &Step<'_>) -> Outcome<()> {
-        let expected = Expected::of(self.alloc, step)?;
-        let words = words_of(self.alloc, step.text)?;
-        self.mount(&words)?;
-        let came = call_tool(
-            self.alloc,
-            &mut self.shelf,
-            &words,
-            expected.input.as_str(),
-            &self.reads,
-            &self.writes,
-        )?;
-        self.reads.clear();
-        self.writes.clear();
-        self.note_call(&words, &expected, &came)?;
-        self.compare(&expected, &came)
+    fn call(&mut self, text: &str, words: &[&str], below: &[&str]) -> Outcome<()> {
+        let input = told(self.alloc, below, "<", "<<")?;
+        let line = command_line(self.alloc, words)?;
+        self.note_begin(text, word_at(words, 1))?;
+        let source = MemSource::new(self.alloc, input.as_bytes(), &self.reads)?;
+        let sink = MemSink::new(self.alloc, &self.writes)?;
+        let came = call_tool(self.alloc, &mut self.shelf, &line, source, sink)?;
+        self.note_call(words, input.as_str(), came.output.as_str())?;
+        self.compare(below, &came)
     }
 
-    /// Notes what a call that is to come finds on the shelf.
-    fn mount(&mut self, words: &[String]) -> Outcome<()> {
-        if !is_command(words, "play") {
-            return Ok(());
+    /// Notes that a command is called.
+    fn note_begin(&mut self, text: &str, command: &str) -> Outcome<()> {
+        match command {
+            "play" => note_mount(self.alloc, &mut self.shelf, &mut self.past)?,
+            "make" => self.made = String::from_str(self.alloc, text)?,
+            _ => {}
         }
-        let mut left = crashed(self.alloc, &mut self.shelf, Torn::Whole)?;
-        match printed(self.alloc, &mut left, "check") {
-            Ok(checked) => self.past.mount(&tallies_of(self.alloc, checked.as_str())?),
-            Err(_) => Ok(()),
-        }
+        Ok(())
     }
 
     /// Notes what a call did.
-    fn note_call(&mut self, words: &[String], expected: &Expected<'_>, came: &Came) -> Outcome<()> {
-        if is_command(words, "play") {
-            self.past
-                .play(expected.input.as_str(), came.output.as_str())
-        } else if is_command(words, "make") {
-            self.past.make(words)
-        } else {
-            Ok(())
+    fn note_call(&mut self, words: &[&str], input: &str, output: &str) -> Outcome<()> {
+        self.reads.clear();
+        self.writes.clear();
+        match word_at(words, 1) {
+            "play" => self.past.play(self.alloc, input, output),
+            _ => Ok(()),
         }
     }
 
-    /// Compares what came of a call.
-    fn compare(&mut self, expected: &Expected<'_>, came: &Came) -> Outcome<()> {
-        if self.turn.repeats {
-            return self.compare_failing(expected, came);
+    /// Compares what came of a call. In a run with a fault what is written from that on isn't compared.
+    fn compare(&mut self, below: &[&str], came: &Came) -> Outcome<()> {
+        let closed = self.shelf.take_closed(self.alloc);
+        if self.repeats {
+            self.failed = self.failed || came.status.fault().is_some();
+            if came.status.fault().is_none() && self.failed {
+                return Ok(());
+            }
         }
-        compare_end(self.alloc, expected, came)?;
-        compare_output(self.alloc, expected, came)?;
-        compare_rest(self.alloc, expected, came)
-    }
-
-    /// Compares what came of a call that may meet the fault of its run. What it writes is said of a run without a fault.
-    fn compare_failing(&mut self, expected: &Expected<'_>, came: &Came) -> Outcome<()> {
-        if came.ended.is_some() {
-            self.turn.failed = true;
-            return compare_end(self.alloc, expected, came);
+        if !self.repeats || self.failed {
+            compare_end(self.alloc, below, &came.status)?;
         }
-        if self.turn.failed {
+        if self.failed {
             return Ok(());
         }
-        compare_output(self.alloc, expected, came)?;
-        compare_rest(self.alloc, expected, came)
+        let due = told(self.alloc, below, ">", ">>")?;
+        compare(self.alloc, "the output", due.as_str(), came.output.as_str())?;
+        compare_rest(self.alloc, below, &came.status, closed.as_str())
     }
-
-    /// `input fails N..`
-    fn fail_input(&mut self, words: &[&str]) -> Outcome<()> {
-        self.reads = numbers_from(self.alloc, words, 2)?;
-        Ok(())
-    }
-
-    /// `output fails N..`
-    fn fail_output(&mut self, words: &[&str]) -> Outcome<()> {
-        self.writes = numbers_from(self.alloc, words, 2)?;
-        Ok(())
-    }
-
-    /// `stuck NAME`
-    fn stick(&mut self, words: &[&str]) -> Outcome<()> {
-        let name = String::from_str(self.alloc, word_at(self.alloc, words, 1)?)?;
-        self.shelf.stick(name);
-        Ok(())
-    }
-
-    // Crashes and runs.
 
     /// `crash lost`, `crash whole` or `crash BYTE`
     fn crash(&mut self, words: &[&str]) -> Outcome<()> {
-        let torn = torn_of(self.alloc, word_at(self.alloc, words, 1)?)?;
+        let torn = torn_of(self.alloc, word_at(words, 1))?;
         self.shelf = crashed(self.alloc, &mut self.shelf, torn)?;
         Ok(())
     }
 
-    /// `each NAME fails` or `each NAME stops`
-    fn repeat(&mut self, words: &[&str]) -> Outcome<()> {
-        let name = word_at(self.alloc, words, 1)?;
-        self.turn.repeats = true;
-        let number = self.turn.number;
-        let bytes = image_of(self.alloc, &mut self.shelf, name, Torn::Lost)?;
-        match word_at(self.alloc, words, 2)? {
-            "fails" => put_device(self.alloc, &mut self.shelf, name, &bytes, &[number], None),
-            "stops" => put_device(self.alloc, &mut self.shelf, name, &bytes, &[], Some(number)),
-            word => differs(format!(in self.alloc; "no way to fail: {word}")),
-        }
-    }
-
-    /// `count N`
-    fn compare_turns(&mut self, words: &[&str]) -> Outcome<()> {
-        let due = number_at(self.alloc, words, 1)?;
-        let number = self.turn.number;
-        if self.turn.failed || number == due {
-            return Ok(());
-        }
-        differs(format!(in self.alloc; "expected {due} runs with a fault, came {number}"))
-    }
-
-    /// `recovers`
-    fn recovers(&mut self) -> Outcome<()> {
-        for torn in [Torn::Lost, Torn::Whole, Torn::Filled(255)] {
-            self.compare_recovered(torn)?;
-        }
-        Ok(())
-    }
-
-    /// Compares what is recovered after a crash with the tree of the calls in the transactions that are kept.
-    fn compare_recovered(&mut self, torn: Torn) -> Outcome<()> {
-        let mut left = crashed(self.alloc, &mut self.shelf, torn)?;
-        let checked = printed(self.alloc, &mut left, "check")?;
-        let dumped = printed(self.alloc, &mut left, "dump")?;
-        let tallies = tallies_of(self.alloc, checked.as_str())?;
-        self.past.compare_found(&tallies)?;
-        let due = self.past.dump(&tallies)?;
-        if dumped.as_str() == due.as_str() {
-            return Ok(());
-        }
-        let number = self.turn.number;
-        differs(format!(in self.alloc;
-            "run {number}, {torn:?}: expected {due:?}, came {dumped:?} of {checked:?}"
-        ))
-    }
-
-    // Devices.
-
-    /// `device NAME LENGTH`
-    fn new_device(&mut self, name: &str, words: &[&str]) -> Outcome<()> {
-        let len = number_at(self.alloc, words, 2)?;
-        let zeros = vec![in self.alloc; 0u8; len as usize]?;
-        put_device(self.alloc, &mut self.shelf, name, &zeros, &[], None)
-    }
-
-    /// `set NAME AT HEX..`
-    fn set(&mut self, name: &str, words: &[&str]) -> Outcome<()> {
-        let at = number_at(self.alloc, words, 2)?;
-        let piece = bytes_from(self.alloc, words, 3)?;
-        let mut bytes = image_of(self.alloc, &mut self.shelf, name, Torn::Lost)?;
-        overwrite(self.alloc, &mut bytes, at, &piece)?;
-        put_device(self.alloc, &mut self.shelf, name, &bytes, &[], None)
-    }
-
-    /// `cut NAME LENGTH`
-    fn cut(&mut self, name: &str, words: &[&str]) -> Outcome<()> {
-        let len = number_at(self.alloc, words, 2)?;
-        let mut bytes = image_of(self.alloc, &mut self.shelf, name, Torn::Lost)?;
-        bytes.truncate(len as usize);
-        put_device(self.alloc, &mut self.shelf, name, &bytes, &[], None)
-    }
-
-    /// `fails NAME N..`
-    fn fail_device(&mut self, name: &str, words: &[&str]) -> Outcome<()> {
-        let failing = numbers_from(self.alloc, words, 2)?;
-        let bytes = image_of(self.alloc, &mut self.shelf, name, Torn::Lost)?;
-        put_device(self.alloc, &mut self.shelf, name, &bytes, &failing, None)
-    }
-
-    /// `stops NAME N`
-    fn stop_device(&mut self, name: &str, words: &[&str]) -> Outcome<()> {
-        let stop = number_at(self.alloc, words, 2)?;
-        let bytes = image_of(self.alloc, &mut self.shelf, name, Torn::Lost)?;
-        put_device(self.alloc, &mut self.shelf, name, &bytes, &[], Some(stop))
-    }
-
-    /// `writes NAME AT HEX..`
-    fn write(&mut self, name: &str, words: &[&str]) -> Outcome<()> {
-        let at = number_at(self.alloc, words, 2)?;
-        let piece = bytes_from(self.alloc, words, 3)?;
-        write_device(self.alloc, &mut self.shelf, name, at, &piece)
-    }
-
     /// `keep NAME`
     fn keep(&mut self, name: &str) -> Outcome<()> {
-        let note = Note {
-            name: String::from_str(self.alloc, name)?,
-            lost: image_of(self.alloc, &mut self.shelf, name, Torn::Lost)?,
-            whole: image_of(self.alloc, &mut self.shelf, name, Torn::Whole)?,
-        };
+        let note = note_of(self.alloc, &mut self.shelf, name)?;
         self.notes.push(note)?;
         Ok(())
     }
 
     /// `same NAME`
     fn compare_kept(&mut self, name: &str) -> Outcome<()> {
-        let lost = image_of(self.alloc, &mut self.shelf, name, Torn::Lost)?;
-        let whole = image_of(self.alloc, &mut self.shelf, name, Torn::Whole)?;
-        let kept = self
-            .notes
-            .iter()
-            .rev()
-            .find(|note| note.name.as_str() == name);
-        match kept {
-            Some(note) if note.lost == lost && note.whole == whole => Ok(()),
-            Some(_) => differs(format!(in self.alloc; "{name} has other bytes than were kept")),
-            None => differs(format!(in self.alloc; "{name} was not kept")),
+        let note = note_of(self.alloc, &mut self.shelf, name)?;
+        if self.notes.iter().any(|kept| is_same(kept, &note)) {
+            Ok(())
+        } else {
+            Err(differs(self.alloc, &["it has other bytes than were kept"]))
         }
     }
 
-    /// `holds NAME AT HEX..`
-    fn compare_bytes(&mut self, name: &str, words: &[&str]) -> Outcome<()> {
-        let at = number_at(self.alloc, words, 2)?;
-        let due = bytes_from(self.alloc, words, 3)?;
-        let bytes = image_of(self.alloc, &mut self.shelf, name, Torn::Lost)?;
-        let behind = bytes
-            .split_at_checked(at as usize)
-            .map_or([].as_slice(), |parts| parts.1);
-        if behind.starts_with(&due) {
+    /// `each NAME fails` or `each NAME stops`
+    fn repeat(&mut self, words: &[&str]) -> Outcome<()> {
+        self.repeats = true;
+        fail_from(self.alloc, &mut self.shelf, words, self.number)
+    }
+
+    /// `count N`
+    fn compare_count(&mut self, words: &[&str]) -> Outcome<()> {
+        if self.failed {
             return Ok(());
         }
-        let (came, _) = behind.split_at(due.len().min(behind.len()));
-        differs(format!(in self.alloc; "expected the bytes {due:?}, came {came:?}"))
+        compare_number(
+            self.alloc,
+            "runs with a fault",
+            word_at(words, 1),
+            self.number,
+        )
     }
 
-    /// `length NAME LENGTH`
-    fn compare_length(&mut self, name: &str, words: &[&str]) -> Outcome<()> {
-        let due = number_at(self.alloc, words, 2)?;
-        let bytes = image_of(self.alloc, &mut self.shelf, name, Torn::Lost)?;
-        let len = bytes.len() as u64;
-        if len == due {
-            return Ok(());
+    /// `recovers`
+    fn recovers(&mut self) -> Outcome<()> {
+        for torn in [Torn::Lost, Torn::Whole, Torn::Filled(255)] {
+            compare_recovered(
+                self.alloc,
+                &mut self.shelf,
+                &self.past,
+                self.made.as_str(),
+                torn,
+            )?;
         }
-        differs(format!(in self.alloc; "expected {due} bytes of {name}, came {len}"))
+        Ok(())
     }
-
-    /// `calls NAME N`
-    fn compare_calls(&mut self, name: &str, words: &[&str]) -> Outcome<()> {
-        let due = number_at(self.alloc, words, 2)?;
-        let calls = calls_of(self.alloc, &mut self.shelf, name)?;
-        if calls == due {
-            return Ok(());
-        }
-        differs(format!(in self.alloc; "expected {due} calls of {name}, came {calls}"))
-    }
-
-    /// `stands NAME` or `absent NAME`
-    fn compare_standing(&mut self, name: &str, due: bool) -> Outcome<()> {
-        if stands(&mut self.shelf, name)? == due {
-            return Ok(());
-        }
-        let place = if due { "not on" } else { "on" };
-        differs(format!(in self.alloc; "{name} is {place} the shelf"))
-    }
-
-    /// `pending NAME` or `settled NAME`
-    fn compare_pending(&mut self, name: &str, due: bool) -> Outcome<()> {
-        let lost = image_of(self.alloc, &mut self.shelf, name, Torn::Lost)?;
-        let whole = image_of(self.alloc, &mut self.shelf, name, Torn::Whole)?;
-        if (lost != whole) == due {
-            return Ok(());
-        }
-        let state = if due { "settled" } else { "pending" };
-        differs(format!(in self.alloc; "what {name} has is {state}"))
-    }
-}
-
-/// Whether words ask for a command.
-fn is_command(words: &[String], command: &str) -> bool {
-    words.first().is_some_and(|word| word.as_str() == command)
 }

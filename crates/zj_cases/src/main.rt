@@ -4,13 +4,13 @@
 
 mod asked;
 mod bench;
+mod device_steps;
 mod devices;
 mod past;
 mod run;
 mod shelf;
 mod step;
 mod text;
-mod tree;
 mod trouble;
 
 use run::Runner;

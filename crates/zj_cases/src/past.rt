@@ -1,16 +1,15 @@
 //! What was played on an image: the calls and the transactions that they are part of, and the tree that is recovered of them.
 
 use crate::text::number_of;
-use crate::tree::tree_text;
-use crate::trouble::{Outcome, differs};
+use crate::trouble::{Outcome, compare_number, differs};
 use std::alloc::{AllocError, Global};
-use zj_block::{Sizes, VERSION};
+use zj_script::read_number;
 
 /// A call that was made.
-#[derive(Debug, Drop)]
+#[derive(Drop)]
 pub struct Drawn {
     /// Its core.
-    pub core: usize,
+    pub core: u64,
     /// The number of the transaction that it is part of.
     pub number: u64,
     /// Its words.
@@ -20,18 +19,16 @@ pub struct Drawn {
 }
 
 /// A core.
-#[derive(Debug, Drop)]
+#[derive(Drop)]
 struct Running {
-    /// The number of its running transaction.
+    /// The number of its running transaction, which is one more than that of the last one that it was told to be committed.
     number: u64,
-    /// Up to which transaction it was told that they are committed.
-    committed: u64,
     /// The words of the call that its handle was begun for.
     begun: String,
 }
 
 /// What `check` tells of a journal.
-#[derive(Clone, Copy, Debug)]
+#[derive(Clone, Copy)]
 pub struct Tally {
     /// Up to which transaction they are in home or found.
     pub found: u64,
@@ -39,195 +36,188 @@ pub struct Tally {
     pub kept: u64,
 }
 
-/// What was played on an image that `make` made.
-#[derive(Debug, Drop)]
+/// What was played on an image.
+#[derive(Drop)]
 pub struct Past {
-    alloc: Global,
-    sizes: Option<Sizes>,
     drawn: Vec<Drawn>,
     cores: Vec<Running>,
 }
 
-/// The tally that a line of `check` tells.
-fn tally_of(alloc: Global, line: &str) -> Outcome<Option<Tally>> {
-    let words: Vec<&str> = line.split(' ').collect(alloc)?;
-    let [_, "from", from, "found", found, "kept", kept] = words.as_slice() else {
-        return Ok(None);
-    };
-    let from = number_of(alloc, from)?;
-    Ok(Some(Tally {
-        found: from.saturating_add(number_of(alloc, found)?),
-        kept: from.saturating_add(number_of(alloc, kept)?),
-    }))
+/// The number at a place of a line of words.
+fn number_in(line: &str, place: usize) -> Option<u64> {
+    let word = line.split(' ').nth(place)?;
+    read_number(word.as_bytes()).map(u64::from)
+}
+
+/// The tally that a line of `check` tells, if it tells one.
+fn tally_of(line: &str) -> Option<Tally> {
+    let from = number_in(line, 2)?;
+    let found = number_in(line, 4)?;
+    let kept = number_in(line, 6)?;
+    Some(Tally {
+        found: from.saturating_add(found),
+        kept: from.saturating_add(kept),
+    })
 }
 
 /// The tallies of all journals, of what `check` prints.
-pub fn tallies_of(alloc: Global, checked: &str) -> Outcome<Vec<Tally>> {
-    let mut tallies = Vec::new(alloc);
-    for line in checked.lines() {
-        if let Some(tally) = tally_of(alloc, line)? {
-            tallies.push(tally)?;
-        }
-    }
-    Ok(tallies)
+pub fn tallies_of(alloc: Global, checked: &str) -> Result<Vec<Tally>, AllocError> {
+    checked.lines().filter_map(tally_of).collect(alloc)
 }
 
 /// Whether the transaction of a call is kept.
 fn is_kept(tallies: &[Tally], drawn: &Drawn) -> bool {
-    tallies
-        .get(drawn.core)
-        .is_some_and(|tally| drawn.number < tally.kept)
+    match tallies.get(drawn.core as usize) {
+        Some(tally) => drawn.number < tally.kept,
+        None => false,
+    }
+}
+
+/// Lines of one core, and the replies to them.
+#[derive(Drop)]
+pub struct Replay {
+    /// The lines, each with its end.
+    pub lines: String,
+    /// What has to be answered.
+    pub answers: String,
+    /// How many calls there are.
+    count: u64,
+}
+
+/// Adds a call, its reply, and a commit.
+fn put_call(alloc: Global, drawn: &Drawn, replay: &mut Replay) -> Result<(), AllocError> {
+    let (call, reply, ticket) = (drawn.call.as_str(), drawn.reply.as_str(), replay.count);
+    let (line, next) = (
+        ticket.wrapping_mul(2).wrapping_add(1),
+        ticket.wrapping_mul(2).wrapping_add(2),
+    );
+    let lines = format!(in alloc; "0 {call}\n0 commit\n")?;
+    let answers = format!(in alloc; "{line} 0 {ticket} {reply}\n{next} 0 committed {ticket}\n")?;
+    replay.lines.push_str(lines.as_str())?;
+    replay.answers.push_str(answers.as_str())?;
+    replay.count = ticket.wrapping_add(1);
+    Ok(())
+}
+
+/// The core with a number.
+fn core_at(alloc: Global, cores: &mut [Running], core: u64) -> Outcome<&mut Running> {
+    match cores.get_mut(core as usize) {
+        Some(running) => Ok(running),
+        None => Err(differs(alloc, &["an answer to a core that isn't there"])),
+    }
+}
+
+/// A core was told that the transaction with this number is committed, which has to be its running one.
+fn commit(alloc: Global, running: &mut Running, number: &str) -> Outcome<()> {
+    let due = running.number;
+    running.number = due.saturating_add(1);
+    compare_number(alloc, "as the number of a commit", number, due)
+}
+
+/// A call that a core made, whole or by ending its handle.
+fn drawn_by(
+    alloc: Global,
+    running: &Running,
+    core: u64,
+    act: &str,
+    reply: &str,
+) -> Result<Drawn, AllocError> {
+    let call = match act {
+        "stop" => running.begun.as_str(),
+        _ => act,
+    };
+    Ok(Drawn {
+        core,
+        number: running.number,
+        call: String::from_str(alloc, call)?,
+        reply: String::from_str(alloc, reply)?,
+    })
+}
+
+/// What stands behind the first word of a line.
+fn rest_of(line: &str) -> &str {
+    line.split_once(' ').unwrap_or((line, "")).1
+}
+
+/// The line that an answer tells the number of.
+fn line_of<'a>(input: &'a str, answer: &str) -> &'a str {
+    let number = number_in(answer, 0).unwrap_or(0);
+    input
+        .lines()
+        .nth((number as usize).wrapping_sub(1))
+        .unwrap_or("")
 }
 
 impl Past {
-    /// Nothing was played, and no image made.
+    /// Nothing was played.
     pub fn new(alloc: Global) -> Past {
         Past {
-            alloc,
-            sizes: None,
             drawn: Vec::new(alloc),
             cores: Vec::new(alloc),
         }
     }
 
-    /// An image is made with these words.
-    pub fn make(&mut self, words: &[String]) -> Outcome<()> {
-        let mut numbers = Vec::new(self.alloc);
-        for word in words.iter().skip(1) {
-            numbers.push(word.parse::<u32>().unwrap_or(0))?;
-        }
-        self.drawn.clear();
-        self.sizes = match numbers.as_slice() {
-            [blocks, nodes, cores, area] => Sizes::new(
-                VERSION,
-                *blocks,
-                *nodes,
-                *cores,
-                u64::from(*area),
-            ),
-            _ => None,
-        };
-        Ok(())
-    }
-
     /// The image is mounted, of whose journals so much is kept: what else was played is gone.
-    pub fn mount(&mut self, tallies: &[Tally]) -> Outcome<()> {
+    pub fn mount(&mut self, alloc: Global, tallies: &[Tally]) -> Outcome<()> {
         self.drawn.retain(|drawn| is_kept(tallies, drawn));
         self.cores.clear();
         for tally in tallies {
             self.cores.push(Running {
                 number: tally.kept,
-                committed: tally.kept,
-                begun: String::new(self.alloc),
+                begun: String::new(alloc),
             })?;
         }
         Ok(())
     }
 
     /// Lines were played, and this was answered.
-    pub fn play(&mut self, input: &str, answers: &str) -> Outcome<()> {
-        let lines: Vec<&str> = input.lines().collect(self.alloc)?;
+    pub fn play(&mut self, alloc: Global, input: &str, answers: &str) -> Outcome<()> {
         for answer in answers.lines() {
-            self.answer(&lines, answer)?;
+            self.answer(alloc, rest_of(line_of(input, answer)), rest_of(answer))?;
         }
         Ok(())
     }
 
-    /// One of these lines was answered so.
-    fn answer(&mut self, lines: &[&str], answer: &str) -> Outcome<()> {
-        let mut words = answer.splitn(4, ' ');
-        let number = number_of(self.alloc, words.next().unwrap_or(""))?;
-        let line = lines
-            .get((number as usize).wrapping_sub(1))
-            .copied()
-            .unwrap_or("");
-        let core = number_of(self.alloc, words.next().unwrap_or(""))? as usize;
-        let (first, rest) = (words.next().unwrap_or(""), words.next().unwrap_or(""));
-        let act = line.split_once(' ').map_or("", |parts| parts.1);
+    /// An act of a core was answered so.
+    fn answer(&mut self, alloc: Global, act: &str, answer: &str) -> Outcome<()> {
+        let (core, told) = answer.split_once(' ').unwrap_or((answer, ""));
+        let core = number_of(alloc, core)?;
+        let running = core_at(alloc, &mut self.cores, core)?;
+        let (first, rest) = told.split_once(' ').unwrap_or((told, ""));
         match first {
-            "begun" => self.begin(core, act),
-            "committed" => self.commit(core, rest),
-            _ if first.parse::<u64>().is_ok() => self.draw(core, act, rest),
-            _ => Ok(()),
+            "begun" => running.begun = String::from_str(alloc, rest_of(act))?,
+            "committed" => commit(alloc, running, rest)?,
+            _ if number_in(first, 0).is_some() => {
+                self.drawn.push(drawn_by(alloc, running, core, act, rest)?)?;
+            }
+            _ => {}
         }
-    }
-
-    /// The core with a number.
-    fn core(&mut self, core: usize) -> Outcome<&mut Running> {
-        match self.cores.get_mut(core) {
-            Some(running) => Ok(running),
-            None => differs(format!(in self.alloc; "no core {core}")),
-        }
-    }
-
-    /// A core began a handle.
-    fn begin(&mut self, core: usize, act: &str) -> Outcome<()> {
-        let call = act.split_once(' ').map_or("", |parts| parts.1);
-        let begun = String::from_str(self.alloc, call)?;
-        self.core(core)?.begun = begun;
-        Ok(())
-    }
-
-    /// A core was told that the transaction with this number is committed, which has to be its running one.
-    fn commit(&mut self, core: usize, number: &str) -> Outcome<()> {
-        let alloc = self.alloc;
-        let told = number_of(alloc, number)?;
-        let running = self.core(core)?;
-        let due = running.number;
-        running.number = told.saturating_add(1);
-        running.committed = told.saturating_add(1);
-        if told == due {
-            Ok(())
-        } else {
-            differs(format!(in alloc; "core {core} committed {told}, expected {due}"))
-        }
-    }
-
-    /// A core made a call, whole or by ending its handle.
-    fn draw(&mut self, core: usize, act: &str, reply: &str) -> Outcome<()> {
-        let alloc = self.alloc;
-        let running = self.core(core)?;
-        let call = if act == "stop" {
-            running.begun.as_str()
-        } else {
-            act
-        };
-        let drawn = Drawn {
-            core,
-            number: running.number,
-            call: String::from_str(alloc, call)?,
-            reply: String::from_str(alloc, reply)?,
-        };
-        self.drawn.push(drawn)?;
         Ok(())
     }
 
     /// What was told to be committed has to be found.
-    pub fn compare_found(&self, tallies: &[Tally]) -> Outcome<()> {
+    pub fn compare_found(&self, alloc: Global, tallies: &[Tally]) -> Outcome<()> {
         for (core, running) in self.cores.iter().enumerate() {
-            let found = tallies.get(core).map_or(0, |tally| tally.found);
-            let due = running.committed;
-            if found < due {
-                return differs(format!(in self.alloc;
-                    "core {core} committed up to {due}, found up to {found}"
-                ));
+            if tallies.get(core).map_or(0, |tally| tally.found) < running.number {
+                return Err(differs(alloc, &["what was committed isn't found"]));
             }
         }
         Ok(())
     }
 
-    /// What `dump` has to print where so much of the journals is kept: the tree of the calls in those transactions, which have
-    /// to be replied to as they were.
-    pub fn dump(&self, tallies: &[Tally]) -> Outcome<String> {
-        let Some(sizes) = &self.sizes else {
-            return differs(format!(in self.alloc; "no image was made"));
+    /// The lines that make the calls of the transactions that are kept on one core, where so much of the journals is kept, and their
+    /// answers: each with the reply that it was given. A commit stands behind the calls of one transaction that follow each other.
+    pub fn replay(&self, alloc: Global, tallies: &[Tally]) -> Outcome<Replay> {
+        let mut replay = Replay {
+            lines: String::new(alloc),
+            answers: String::new(alloc),
+            count: 0,
         };
-        let mut kept = Vec::new(self.alloc);
         for drawn in &self.drawn {
             if is_kept(tallies, drawn) {
-                kept.push(drawn)?;
+                put_call(alloc, drawn, &mut replay)?;
             }
         }
-        tree_text(self.alloc, sizes, &kept)
+        Ok(replay)
     }
 }

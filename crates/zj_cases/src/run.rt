@@ -2,14 +2,14 @@
 
 use crate::bench::Bench;
 use crate::step::{Step, is_below, is_comment};
-use crate::trouble::Trouble;
+use crate::trouble::{Trouble, joined};
 use std::alloc::{AllocError, Global};
 
 /// How often the steps of a case are run at most.
 const MAX_RUNS: u64 = 10_000;
 
 /// The cases of a text, one after the other: the steps of the one that is being read, and what came of those before.
-#[derive(Debug, Drop)]
+#[derive(Drop)]
 pub struct Runner<'a> {
     alloc: Global,
     steps: Vec<Step<'a>>,
@@ -90,7 +90,7 @@ impl<'a> Runner<'a> {
         let mut bench = Bench::new(self.alloc, number)?;
         for step in &self.steps {
             if let Err(trouble) = bench.make(step) {
-                let text = trouble_text(self.alloc, step, trouble)?;
+                let text = trouble_text(self.alloc, step, &trouble)?;
                 self.told.push_str(text.as_str())?;
             }
         }
@@ -99,11 +99,15 @@ impl<'a> Runner<'a> {
 }
 
 /// What is told of a step that failed.
-fn trouble_text(alloc: Global, step: &Step<'_>, trouble: Trouble) -> Result<String, AllocError> {
-    let number = step.number;
-    let step = step.text;
+fn trouble_text(alloc: Global, step: &Step<'_>, trouble: &Trouble) -> Result<String, AllocError> {
+    let number = (step.number as u64).to_string(alloc)?;
     match trouble {
-        Trouble::NoMemory => format!(in alloc; "line {number}, {step}: no memory\n"),
-        Trouble::Differs(text) => format!(in alloc; "line {number}, {step}: {text}\n"),
+        Trouble::NoMemory => line_text(alloc, number.as_str(), step.text, "no memory"),
+        Trouble::Differs(text) => line_text(alloc, number.as_str(), step.text, text.as_str()),
     }
+}
+
+/// A line of a step that failed.
+fn line_text(alloc: Global, number: &str, step: &str, why: &str) -> Result<String, AllocError> {
+    joined(alloc, &["line ", number, ", ", step, ": ", why, "\n"])
 }

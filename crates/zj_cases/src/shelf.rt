@@ -5,10 +5,11 @@ ghost use Rattle.zj_dev.specs.Fault.{Rose};
 ghost use Rattle.zj_dev.specs.MemShelf.{shelf_names};
 
 use std::alloc::{AllocError, Global};
+use std::mem;
 use zj_dev::{MemDisk, MemShelf, Shelf, ShelfFailed};
 
 /// A shelf that notes the order of closing. It puts each device back, and then fails at the one that is stuck.
-#[derive(Debug, Drop)]
+#[derive(Drop)]
 pub struct CaseShelf {
     shelf: MemShelf,
     stuck: String,
@@ -34,7 +35,7 @@ impl CaseShelf {
 
     /// The names that were closed since they were last asked for, each behind a space.
     pub fn take_closed(&mut self, alloc: Global) -> String {
-        std::mem::replace(&mut self.closed, String::new(alloc))
+        mem::replace(&mut self.closed, String::new(alloc))
     }
 
     /// Puts a device under a name, in place of what stood there.

@@ -1,9 +1,9 @@
 //! Why a step of a case fails.
 
-use std::alloc::{AllocError, AllocFailed};
+use std::alloc::{AllocError, AllocFailed, Global};
 
 /// Why a step of a case fails.
-#[derive(Debug, Drop)]
+#[derive(Drop)]
 pub enum Trouble {
     /// It ran out of memory.
     NoMemory,
@@ -26,10 +26,36 @@ impl<T: Drop> From<AllocFailed<T>> for Trouble {
     }
 }
 
-/// The trouble that a text tells.
-pub fn differs<T>(text: Result<String, AllocError>) -> Outcome<T>
-where
-    T: Drop,
-{
-    Err(Trouble::Differs(text?))
+/// The parts of a text behind each other.
+pub fn joined(alloc: Global, parts: &[&str]) -> Result<String, AllocError> {
+    let mut text = String::new(alloc);
+    for part in parts {
+        text.push_str(part)?;
+    }
+    Ok(text)
+}
+
+/// The trouble that a text tells, which is given in parts.
+pub fn differs(alloc: Global, parts: &[&str]) -> Trouble {
+    match joined(alloc, parts) {
+        Ok(text) => Trouble::Differs(text),
+        Err(_) => Trouble::NoMemory,
+    }
+}
+
+/// Compares what came with what is due.
+pub fn compare(alloc: Global, what: &str, due: &str, came: &str) -> Outcome<()> {
+    if due == came {
+        return Ok(());
+    }
+    Err(differs(
+        alloc,
+        &["expected ", what, " `", due, "`, came `", came, "`"],
+    ))
+}
+
+/// Compares a number that came with the one that a word spells.
+pub fn compare_number(alloc: Global, what: &str, due: &str, came: u64) -> Outcome<()> {
+    let came = came.to_string(alloc)?;
+    compare(alloc, what, due, came.as_str())
 }
