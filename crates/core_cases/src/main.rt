@@ -2,6 +2,8 @@
 //! and both on threads of their own. It prints what came; the text that is wanted stands in `stdout`.
 #![tactic(auto)]
 
+mod service;
+
 ghost use Rattle.std.specs.Prelude.{[], ◌≡◌, IfOk, None, false};
 ghost use Rattle.zj_turns.specs.Passes.{IsIdle, IsPeer, mine};
 ghost use Rattle.zj_core.specs.Core.{CoreState, IsOf};
@@ -24,11 +26,7 @@ const AREA: u64 = 131_072;
 const MANY: u32 = 100;
 
 /// A core of a pass that was just dealt, with an empty journal.
-fn core_of(
-    alloc: Global,
-    pass: Pass<ShowsTree>,
-    sizes: &Sizes,
-) -> anyhow::Result<Core<MemDisk>>
+fn core_of(alloc: Global, pass: Pass<ShowsTree>, sizes: &Sizes) -> anyhow::Result<Core<MemDisk>>
     requires idle { IsIdle pass.table pass.core pass }
     requires none { (mine pass).operations ≡ [] }
     ensures { IfOk result (λ core. (core.pass ≡ pass) × (core.sizes ≡ sizes.now) × (core.begun ≡ None)) }
@@ -166,5 +164,5 @@ fn main(rt: HostRuntime) -> anyhow::Result<()> {
     );
     let (some, others) = on_threads(&rt, made, &one, &two);
     println!(rt; "{some} and {others} calls on two threads")?;
-    Ok(())
+    service::starts_and_ends(&rt)
 }

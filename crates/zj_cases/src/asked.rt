@@ -5,7 +5,7 @@ use crate::step::{is_said, said};
 use crate::text::command_line;
 use crate::trouble::{Outcome, compare, compare_number, differs};
 use std::alloc::{AllocError, Global};
-use zj_cli::{Phase, PhaseKind, Status, zj_tool};
+use zj_cli::{Fault, Phase, PhaseKind, Status, zj_tool};
 use zj_dev::{MemSink, MemSource};
 
 /// What came of a call of the tool.
@@ -56,6 +56,19 @@ fn end_of(alloc: Global, status: &Status) -> Result<String, AllocError> {
         text.push_str(fault.to_string(alloc)?.as_str())?;
     }
     Ok(text)
+}
+
+/// Compares the code and the text of a fault that no run meets: that memory ran out.
+pub fn compare_memory(alloc: Global, below: &[&str]) -> Outcome<()> {
+    let mut text = Fault::Memory.code().to_string(alloc)?;
+    text.push(' ')?;
+    text.push_str(Fault::Memory.to_string(alloc)?.as_str())?;
+    compare(
+        alloc,
+        "the fault",
+        said(below, "=", 0).unwrap_or(""),
+        text.as_str(),
+    )
 }
 
 /// What a command of one line prints that reads this input. It has to end without a fault.

@@ -1,6 +1,6 @@
 //! What a case has come to, and its steps.
 
-use crate::asked::{Came, call_tool, compare_end, compare_rest, printed};
+use crate::asked::{Came, call_tool, compare_end, compare_memory, compare_rest, printed};
 use crate::device_steps::{change, fail_from};
 use crate::devices::{crashed, image_of, torn_of};
 use crate::past::{Past, Replay, tallies_of};
@@ -127,6 +127,7 @@ impl Bench {
             "case" => Ok(()),
             "zj" => self.call(step.text, &words, &step.below),
             "recovers" => self.recovers(),
+            "memory" => compare_memory(self.alloc, &step.below),
             _ => self.make_rare(&words),
         }
     }

@@ -195,6 +195,3 @@ fn put_back<D: Disk>(mut waiting: Vec<Area<D>>, places: &mut Areas<D>)
     }
     waiting.destroy_empty();
 }
-
-#[cfg(test)]
-mod tests;
