@@ -16,6 +16,3 @@ pub use phase::{Phase, PhaseKind};
 pub use status::{Fault, ImageFault, Status};
 pub use tool::zj_tool;
 pub use zj_dev::Span;
-
-#[cfg(test)]
-mod tests;

@@ -88,6 +88,26 @@ pub enum Fault {
     Output,
 }
 
+impl Fault {
+    ghost use Rattle.std.specs.Prelude.{◌≡◌, Some};
+    ghost use Rattle.zj_cli.specs.Tool.{code_of_fault};
+
+    /// The exit status of a call that ends with it.
+    pub fn code(&self) -> u8
+        ensures { result ≡ code_of_fault (Some self.now) }
+    {
+        match self {
+            Fault::Words => 1,
+            Fault::Script { .. } => 2,
+            Fault::Image(_) => 3,
+            Fault::Device { .. } => 4,
+            Fault::Memory => 5,
+            Fault::Input => 6,
+            Fault::Output => 7,
+        }
+    }
+}
+
 impl From<AllocError> for Fault {
     ghost use Rattle.std.specs.Prelude.{◌≡◌};
     ghost use Rattle.zj_cli.specs.declared.status.Fault.TheVariants.{Memory};
@@ -248,15 +268,9 @@ impl Status {
     pub fn code(&self) -> u8
         ensures { result ≡ code_of self.now }
     {
-        match self.fault {
+        match &self.fault {
             None => 0,
-            Some(Fault::Words) => 1,
-            Some(Fault::Script { .. }) => 2,
-            Some(Fault::Image(_)) => 3,
-            Some(Fault::Device { .. }) => 4,
-            Some(Fault::Memory) => 5,
-            Some(Fault::Input) => 6,
-            Some(Fault::Output) => 7,
+            Some(fault) => fault.code(),
         }
     }
 

@@ -45,6 +45,3 @@ mod steps;
 pub use fault::{BeginFault, CallFault, CommitFault, StopFault, TakeFault};
 pub use handles::{Core, CoreRefused, Done};
 pub use shows::ShowsTree;
-
-#[cfg(test)]
-mod tests;

@@ -38,6 +38,3 @@ pub use mounting::mount;
 pub use names::{HOME, journal_name};
 pub use opening::{Set, open_all};
 pub use recovered::Recovered;
-
-#[cfg(test)]
-mod tests;

@@ -169,6 +169,3 @@ fn close_all<D: Disk>(cores: Vec<Core<D>>, places: &mut Areas<D>)
     }
     left.destroy_empty();
 }
-
-#[cfg(test)]
-mod tests;

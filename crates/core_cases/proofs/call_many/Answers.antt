@@ -1,7 +1,7 @@
 use Rattle.std.proofs.Common.{◌∙◌}
 use Rattle.zj_core.specs.Core.{number_of}
 use Rattle.zj_core.proofs.Going.{begun_called, of_called, sizes_called}
-use Rattle.zj_core.proofs.tests.call_many.Goals as goal
+use Rattle.core_cases.proofs.call_many.Goals as goal
 
 pub loop-init : goal.loop-init
 loop-init c = (c.requires.of, c.requires.idle)

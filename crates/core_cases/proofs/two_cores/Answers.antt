@@ -3,7 +3,7 @@ use Rattle.std.proofs.lemmas.List.{same_from_push}
 use Rattle.zj_turns.specs.Views.{Known, blank}
 use Rattle.zj_turns.specs.Passes.{CacheParameters, IsIdle, IsPeer, PassState, dealt, fresh, mine}
 use Rattle.zj_turns.proofs.Lone.{fresh_idle, lone_alone, lone_is}
-use Rattle.zj_core.proofs.tests.two_cores.Goals as goal
+use Rattle.core_cases.proofs.two_cores.Goals as goal
 
 -- the passes of two cores, the first one first
 first_dealt : (f : CacheParameters) (old new : List PassState) (p : PassState) → old ≡ dealt f.table 2 2 → old ≡ new ++ p ∷ [] → (new ≡ dealt f.table 2 1) × (p ≡ fresh f.table 0)
