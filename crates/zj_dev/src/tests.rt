@@ -200,6 +200,22 @@ fn devices_are_taken_and_put(rt: HostRuntime) {
 }
 
 #[test]
+fn a_shelf_in_memory_fails_where_it_was_told_to(rt: HostRuntime) {
+    let mut shelf = MemShelf::new(rt.alloc()).expect(&rt, "memory");
+    let home = made(&rt, &mut shelf, "home", 4);
+    shelf.fail_at(&[0, 1, 3]).expect(&rt, "memory");
+    assert!(rt;
+        shelf.close("home", home).is_err(),
+        "it stands there all the same"
+    );
+    assert!(rt; shelf.open("home").is_err());
+    let home = opened(&rt, &mut shelf, "home");
+    assert!(rt; shelf.create("j0", 1).is_err());
+    has_none(&rt, &mut shelf, "j0");
+    shelf.close("home", home).expect(&rt, "no fault");
+}
+
+#[test]
 fn a_folder_keeps_its_files(rt: HostRuntime) {
     let mut shelf = FolderShelf::new(&rt);
     has_none(&rt, &mut shelf, "home");
